@@ -1,5 +1,5 @@
 -- What a world is whose lines got room, one that has the line of a command behind them, and one of which an actor broke.
-use Rattle.std.proofs.Common.{◌≡◌, ℕ, zero, suc, Bool, true, Option, List, [], ◌∷◌, ◌++◌, map, reverse, Some, slice_get, sym, ◌∙◌, ap, subst}
+use Rattle.std.proofs.Common.{◌≡◌, ℕ, zero, suc, Bool, true, Option, List, [], ◌∷◌, ◌++◌, map, reverse, Some, slice_get, refl, sym, ◌∙◌, ap, subst}
 use Rattle.std.proofs.lemmas.List.{reverse-append}
 use Rattle.std.specs.Global.{Vec}
 use Rattle.mdb_base.specs.declared.names.Tid.{Tid}
@@ -21,22 +21,13 @@ use Rattle.fed_world.specs.declared.errors.WorldErr.TheVariants as Err_is
 use Rattle.fed_world.specs.declared.site_asks.Heard.{Heard}
 use Rattle.fed_world.specs.declared.world.World.{World}
 use Rattle.fed_world.specs.Asks.{terms_of}
-use Rattle.fed_world.specs.Worlds.{ActorBroke, ActorsAt, ActorsStand, DbmsStands, FailsAt, HasLines, IsHeard, IsUnheard, KeepsLines, ManagerStands, Stands, StandsBut}
+use Rattle.fed_world.specs.Worlds.{ActorBroke, ActorsAt, ActorsStand, DbmsStands, FailsAt, HasActorsOf, HasLines, IsHeard, IsSameWorld, IsUnheard, KeepsLines, ManagerStands, Stands, StandsBut}
 use Rattle.fed_world.specs.Beginnings.{Remembers}
 use Rattle.fed_world.specs.Lines.{IsRightIn, told_in}
 
--- the other world has the same actors and messages
-pub record HasActorsOf (old new : World) : Type 0 where
-  pub cores : new.cores ≡ old.cores
-  pub traffic : new.traffic.items ≡ old.traffic.items
-
--- and the same lines and routes
-pub record IsSameWorld (old new : World) : Type 0 where
-  pub actors : HasActorsOf old new
-  pub lines : new.lines.items ≡ old.lines.items
-  pub broken : new.broken ≡ old.broken
-  pub routes : new.routes ≡ old.routes
-  pub begun : new.begun ≡ old.begun
+-- its lines may lie elsewhere
+pub roomier : (world : World) (lines : Vec Line) → lines.items ≡ world.lines.items → IsSameWorld world (record world { lines = lines })
+roomier world lines same = record { actors = record { cores = refl; traffic = refl }; lines = same; broken = refl; routes = refl; begun = refl }
 
 same_actors : (tells : Bool) (old new : World) (disks : List Seen) (session : Session) (commands : List Command) → HasActorsOf old new → ActorsStand tells old disks session commands → ActorsStand tells new disks session commands
 same_actors tells old new disks session commands same s = record {

@@ -1,5 +1,6 @@
 -- The sessions and commands that a world stands for, and what a call does to them. Commands stand newest first.
 use Rattle.std.specs.Prelude.{ℕ, zero, suc, ◌≡◌, ◌≤◌, ◌<◌, ◌^◌, ◌+◌, Bool, true, false, Some, None, List, [], ◌∷◌, ◌++◌, length, map, reverse, slice_get}
+use Rattle.std.specs.Vec.{vec_len, vec_capacity}
 use Rattle.mdb_base.specs.declared.names.SiteId.{SiteId}
 use Rattle.fed_rules.specs.declared.commands.Command.{Command}
 use Rattle.fed_rules.specs.declared.commands.Line.{Line}
@@ -225,6 +226,23 @@ EachCoordAsk K ask P = (session : Session) (commands : List Command) (command : 
 -- the lines of the world, the first line first
 abbrev pub lines_of : World → List Line
 lines_of world = world.lines.items
+
+-- the other world has the same actors and messages
+pub record HasActorsOf (old new : World) : Type 0 where
+  pub cores : new.cores ≡ old.cores
+  pub traffic : new.traffic.items ≡ old.traffic.items
+
+-- and the same lines and routes
+pub record IsSameWorld (old new : World) : Type 0 where
+  pub actors : HasActorsOf old new
+  pub lines : new.lines.items ≡ old.lines.items
+  pub broken : new.broken ≡ old.broken
+  pub routes : new.routes ≡ old.routes
+  pub begun : new.begun ≡ old.begun
+
+-- so many further lines fit in the memory of those made before
+abbrev pub HasLineRoom : ℕ → World → Type 0
+HasLineRoom count world = vec_len world.lines + count ≤ vec_capacity world.lines
 
 -- the lines made before stay as they are, and behind them stands that of the command
 pub record AddsLine (old new : World) (command : Command) : Type 0 where

@@ -1,13 +1,14 @@
 //! The world of a session.
-ghost use Rattle.std.specs.Prelude.{◌≡◌, ◌∷◌, IfErr, OnErr, OnOk, IsTrue, map};
+ghost use Rattle.std.specs.Prelude.{◌≡◌, ◌∷◌, Bool, IfErr, List, OnErr, OnOk, IsTrue, map};
+ghost use Rattle.journal_disk.specs.Disk.{Seen};
 ghost use Rattle.fed_world.specs.Faults.{CountsTell};
-ghost use Rattle.fed_world.specs.Worlds.{AddsLine, EachStory, FailsAt, HasRoom, SomeStory, Stands, lines_of};
+ghost use Rattle.fed_world.specs.Worlds.{AddsLine, EachStory, FailsAt, HasLineRoom, HasRoom, IsSameWorld, SomeStory, Stands, lines_of};
 
 use crate::cores::Cores;
 use crate::errors::WorldErr;
 use fed_rules::{Command, Line};
 use journal_disk::Disk;
-use mdb_base::Tid;
+use mdb_base::{Memory, Tid};
 use session_routes::{Routes, Traffic};
 use std::alloc::Global;
 
@@ -24,6 +25,16 @@ pub struct World {
 }
 
 impl World {
+    /// Makes room for the lines of so many further commands. It changes nothing else, also without memory.
+    pub fn make_room(&mut self, commands: usize) -> Result<(), Memory>
+        ensures room { OnOk result (HasLineRoom commands self.new) }
+        ensures same { IsSameWorld self.old self.new }
+        ensures stands { (tells : Bool) (disks : List Seen) → EachStory (Stands tells self.old disks) (Stands tells self.new disks) }
+    {
+        self.lines.reserve(commands)?;
+        Ok(())
+    }
+
     /// Carries out a command, and adds its line behind those made before, which stay as they are. Without memory all stays as it was. Where
     /// a disk call of an actor fails, which is told with the actor's number, the world is broken and there is no line: that actor, in memory
     /// and on its disk, is as some stop within the event of this command leaves it, and each other one is as it was.
