@@ -40,6 +40,9 @@ fn carry_out<D: Disk>(
         (λ scenario before. with_commands commands.now before)) }
     ensures cause { CountsTell result (map D.seen disks.old.items) (map D.seen disks.new.items) }
 {
+    let Ok(()) = world.make_room(commands.len()) else {
+        return Err(WorldErr::Memory);
+    };
     for command in commands {
         world.apply(alloc, disks, *command)?;
     }

@@ -1,4 +1,4 @@
-use Rattle.std.proofs.Common.{◌∷◌, List, map, take, get_or, sym, ◌∙◌, subst}
+use Rattle.std.proofs.Common.{◌∷◌, List, map, take, get_or, refl, sym, ◌∙◌, subst}
 use Rattle.std.proofs.lemmas.List.{take_all}
 use Rattle.std.proofs.lemmas.Result.{err_from_is_err_and}
 use Rattle.fed_rules.specs.declared.commands.Command.{Command}
@@ -8,7 +8,7 @@ use Rattle.fed_world.specs.FreshWorlds.{Stands}
 use Rattle.closing.specs.Steps.{with_commands}
 use Rattle.fed_world.proofs.Faults.{failed_later}
 use Rattle.closing.proofs.Loops.{each_extends, each_more, next_begins, room_for}
-use Rattle.closing.proofs.Towards.{extends_one, room_one, fails_at, fails_within}
+use Rattle.closing.proofs.Towards.{extends_one, room_one, fails_at, fails_within, short_here}
 use Rattle.session_outputs.proofs.replay_output.carry_out.Goals as goal
 
 -- some command
@@ -17,6 +17,20 @@ none = Cmd.Begin (record { 0 = 0 })
 
 abbrev push : Command → List Command → List Command
 push command commands = command ∷ commands
+
+pub returns-in_default-clause-failed : goal.returns-in_default-clause-failed
+returns-in_default-clause-failed g c scenario before s fits =
+    let tells = g.D.Disk.tells in
+    let disks = map g.D.Disk.seen c.args.disks.now.items in
+    let items = c.args.commands.now in
+    short_here tells c.make_room.new.self disks (fresh scenario) (with_commands items before) before (each_extends push extends_one items before)
+    (c.make_room.ensures.stands tells disks (fresh scenario) before s)
+
+pub loop-command-init : goal.loop-command-init
+loop-command-init g c = record {
+  stands = λ scenario before s fits. c.make_room.ensures.stands g.D.Disk.tells (map g.D.Disk.seen c.args.disks.now.items) (fresh scenario) before s;
+  calm = refl;
+}
 
 pub apply-requires-clause-stood : goal.apply-requires-clause-stood
 apply-requires-clause-stood g c =
