@@ -28,13 +28,13 @@ CanClose scenario commands = length commands < 2 ^ 29
 abbrev pub IsShort : Bool → World → List Seen → List Command → Scenario → List Command → Type 0
 IsShort tells world disks whole scenario commands = Towards.IsShort tells world disks whole (fresh scenario) commands
 
--- a disk call failed at one of the commands: those before it were carried out
-abbrev pub BreaksAt : ℕ → Bool → World → List Seen → List Command → Scenario → List Command → Type 0
-BreaksAt number tells world disks whole scenario commands = Towards.BreaksAt number tells world disks whole (fresh scenario) commands
+-- a disk call failed at one of the commands: those before it were carried out, while no count of faults had risen
+abbrev pub BreaksAt : {D : Type 0} → (D → Seen) → ℕ → Bool → List Seen → World → List Seen → List Command → Scenario → List Command → Type 0
+BreaksAt seen number tells old world disks whole scenario commands = Towards.BreaksAt seen number tells old world disks whole (fresh scenario) commands
 
 -- a world that has these commands behind it fails on the way to all of them
-abbrev pub FailsToward : Bool → WorldErr → World → List Seen → List Command → Scenario → List Command → Type 0
-FailsToward tells why world disks whole scenario commands = Towards.FailsToward tells why world disks whole (fresh scenario) commands
+abbrev pub FailsToward : {D : Type 0} → (D → Seen) → Bool → WorldErr → List Seen → World → List Seen → List Command → Scenario → List Command → Type 0
+FailsToward seen tells why old world disks whole scenario commands = Towards.FailsToward seen tells why old world disks whole (fresh scenario) commands
 
 -- behind this the world, with its disks, has all these commands behind it
 abbrev pub Reaches : Bool → World → List Seen → World → List Seen → (Scenario → List Command → Type 0) → (Scenario → List Command → List Command) → Type 0
@@ -42,6 +42,6 @@ Reaches tells old before new after Can whole =
     EachStory (Stands tells old before) (λ scenario commands. Can scenario commands → Stands tells new after scenario (whole scenario commands))
 
 -- it fails on the way to them
-abbrev pub FallsShort : Bool → World → List Seen → WorldErr → World → List Seen → (Scenario → List Command → Type 0) → (Scenario → List Command → List Command) → Type 0
-FallsShort tells old before why new after Can whole =
-    EachStory (Stands tells old before) (λ scenario commands. Can scenario commands → FailsToward tells why new after (whole scenario commands) scenario commands)
+abbrev pub FallsShort : {D : Type 0} → (D → Seen) → Bool → World → List Seen → WorldErr → World → List Seen → (Scenario → List Command → Type 0) → (Scenario → List Command → List Command) → Type 0
+FallsShort seen tells old before why new after Can whole =
+    EachStory (Stands tells old before) (λ scenario commands. Can scenario commands → FailsToward seen tells why before new after (whole scenario commands) scenario commands)

@@ -1,4 +1,5 @@
 pub mod Alone
+pub mod Between
 pub mod FreshTowards
 pub mod Steps
 pub mod Towards

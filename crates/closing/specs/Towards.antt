@@ -7,7 +7,9 @@ use Rattle.fed_world.specs.declared.errors.WorldErr.{WorldErr}
 use Rattle.fed_world.specs.declared.errors.WorldErr.TheVariants as Err_is
 use Rattle.fed_world.specs.declared.world.World.{World}
 use Rattle.fed_world.specs.Beginnings.{made_up}
+use Rattle.fed_world.specs.Faults.{RisesAt}
 use Rattle.fed_world.specs.Worlds.{EachStory, IsBroken, Stands}
+use Rattle.closing.specs.Between.{WereCalm}
 
 -- the numbers of all these commands fit, behind the lines with which the session begins
 abbrev pub Fits : Session → List Command → Type 0
@@ -24,18 +26,24 @@ pub record IsShort (tells : Bool) (world : World) (disks : List Seen) (whole : L
   pub of_whole : whole ≡ left ++ (done ++ commands)
   pub stood : Stands tells world disks session (done ++ commands)
 
--- a disk call failed at one of the commands: those before it were carried out
-pub record BreaksAt (number : ℕ) (tells : Bool) (world : World) (disks : List Seen) (whole : List Command) (session : Session) (commands : List Command) : Type 0 where
+-- a disk call failed at one of the commands: those before it were carried out, and the session stood behind them while no count of faults had risen. From
+-- the disks as they were then, the count of this disk rose, and no other
+pub record BreaksAt {D : Type 0} (seen : D → Seen) (number : ℕ) (tells : Bool) (old : List Seen) (world : World) (disks : List Seen) (whole : List Command) (session : Session) (commands : List Command) : Type 0 where
   pub command : Command
   pub done : List Command
   pub left : List Command
   pub of_whole : whole ≡ left ++ command ∷ (done ++ commands)
+  pub was : World
+  pub before : List Seen
+  pub were : WereCalm seen old before
+  pub stood : Stands tells was before session (done ++ commands)
+  pub rose : RisesAt number before disks
   pub broken : IsBroken number tells world disks command session (done ++ commands)
 
--- a world that has these commands behind it fails on the way to all of them
-abbrev pub FailsToward : Bool → WorldErr → World → List Seen → List Command → Session → List Command → Type 0
-FailsToward tells Err_is.Memory world disks whole session commands = IsShort tells world disks whole session commands
-FailsToward tells (Err_is.Disk number) world disks whole session commands = BreaksAt number tells world disks whole session commands
+-- a world that has these commands behind it fails on the way to all of them; the old disks are those with which it began
+abbrev pub FailsToward : {D : Type 0} → (D → Seen) → Bool → WorldErr → List Seen → World → List Seen → List Command → Session → List Command → Type 0
+FailsToward seen tells Err_is.Memory old world disks whole session commands = IsShort tells world disks whole session commands
+FailsToward seen tells (Err_is.Disk number) old world disks whole session commands = BreaksAt seen number tells old world disks whole session commands
 
 -- behind this the world, with its disks, has all these commands behind it
 abbrev pub Reaches : Bool → World → List Seen → World → List Seen → (Session → List Command → Type 0) → (Session → List Command → List Command) → Type 0
@@ -43,6 +51,6 @@ Reaches tells old before new after Can whole =
     EachStory (Stands tells old before) (λ session commands. Can session commands → Stands tells new after session (whole session commands))
 
 -- it fails on the way to them
-abbrev pub FallsShort : Bool → World → List Seen → WorldErr → World → List Seen → (Session → List Command → Type 0) → (Session → List Command → List Command) → Type 0
-FallsShort tells old before why new after Can whole =
-    EachStory (Stands tells old before) (λ session commands. Can session commands → FailsToward tells why new after (whole session commands) session commands)
+abbrev pub FallsShort : {D : Type 0} → (D → Seen) → Bool → World → List Seen → WorldErr → World → List Seen → (Session → List Command → Type 0) → (Session → List Command → List Command) → Type 0
+FallsShort seen tells old before why new after Can whole =
+    EachStory (Stands tells old before) (λ session commands. Can session commands → FailsToward seen tells why before new after (whole session commands) session commands)

@@ -30,7 +30,7 @@ fn steps_alone<D: Disk>(
     requires told { IsTrue D.tells }
     requires stood { SomeStory (Stands D.tells world.old (map D.seen disks.old.items)) (WillFit (λ scenario. rules.steps_alone tx steps.now)) }
     ensures done { OnOk result (Reaches D.tells world.old (map D.seen disks.old.items) world.new (map D.seen disks.new.items) (WillFit (λ scenario. rules.steps_alone tx steps.now)) (λ scenario. rules.steps_alone tx steps.now)) }
-    ensures failed { IfErr result (λ why. FallsShort D.tells world.old (map D.seen disks.old.items) why world.new (map D.seen disks.new.items) (WillFit (λ scenario. rules.steps_alone tx steps.now)) (λ scenario. rules.steps_alone tx steps.now)) }
+    ensures failed { IfErr result (λ why. FallsShort D.seen D.tells world.old (map D.seen disks.old.items) why world.new (map D.seen disks.new.items) (WillFit (λ scenario. rules.steps_alone tx steps.now)) (λ scenario. rules.steps_alone tx steps.now)) }
     ensures cause { CountsTell result (map D.seen disks.old.items) (map D.seen disks.new.items) }
 {
     for done in 0..steps.len() {
@@ -51,7 +51,7 @@ fn local_alone<D: Disk>(
     requires told { IsTrue D.tells }
     requires stood { SomeStory (Stands D.tells world.old (map D.seen disks.old.items)) (WillFit (λ scenario. rules.local_alone tx steps.now)) }
     ensures done { OnOk result (Reaches D.tells world.old (map D.seen disks.old.items) world.new (map D.seen disks.new.items) (WillFit (λ scenario. rules.local_alone tx steps.now)) (λ scenario. rules.local_alone tx steps.now)) }
-    ensures failed { IfErr result (λ why. FallsShort D.tells world.old (map D.seen disks.old.items) why world.new (map D.seen disks.new.items) (WillFit (λ scenario. rules.local_alone tx steps.now)) (λ scenario. rules.local_alone tx steps.now)) }
+    ensures failed { IfErr result (λ why. FallsShort D.seen D.tells world.old (map D.seen disks.old.items) why world.new (map D.seen disks.new.items) (WillFit (λ scenario. rules.local_alone tx steps.now)) (λ scenario. rules.local_alone tx steps.now)) }
     ensures cause { CountsTell result (map D.seen disks.old.items) (map D.seen disks.new.items) }
 {
     world.apply(alloc, disks, Command::Begin(tx))?;
@@ -80,7 +80,7 @@ fn deliver_next<D: Disk>(
     requires stood { SomeStory (Stands D.tells world.old (map D.seen disks.old.items)) (WillFit (delivered_next place)) }
     ensures sent { IfOk result (λ sent. EachStory (Stands D.tells world.old (map D.seen disks.old.items)) (λ scenario commands. WillFit (delivered_next place) scenario commands → sent ≡ queue_after scenario place commands)) }
     ensures done { OnOk result (Reaches D.tells world.old (map D.seen disks.old.items) world.new (map D.seen disks.new.items) (WillFit (delivered_next place)) (delivered_next place)) }
-    ensures failed { IfErr result (λ why. FallsShort D.tells world.old (map D.seen disks.old.items) why world.new (map D.seen disks.new.items) (WillFit (delivered_next place)) (delivered_next place)) }
+    ensures failed { IfErr result (λ why. FallsShort D.seen D.tells world.old (map D.seen disks.old.items) why world.new (map D.seen disks.new.items) (WillFit (delivered_next place)) (delivered_next place)) }
     ensures cause { CountsTell result (map D.seen disks.old.items) (map D.seen disks.new.items) }
 {
     let command = Command::Give {
@@ -109,7 +109,7 @@ fn global_alone<D: Disk>(
     requires told { IsTrue D.tells }
     requires stood { SomeStory (Stands D.tells world.old (map D.seen disks.old.items)) (WillFit (λ scenario. rules.global_alone scenario tx steps.now)) }
     ensures done { OnOk result (Reaches D.tells world.old (map D.seen disks.old.items) world.new (map D.seen disks.new.items) (WillFit (λ scenario. rules.global_alone scenario tx steps.now)) (λ scenario. rules.global_alone scenario tx steps.now)) }
-    ensures failed { IfErr result (λ why. FallsShort D.tells world.old (map D.seen disks.old.items) why world.new (map D.seen disks.new.items) (WillFit (λ scenario. rules.global_alone scenario tx steps.now)) (λ scenario. rules.global_alone scenario tx steps.now)) }
+    ensures failed { IfErr result (λ why. FallsShort D.seen D.tells world.old (map D.seen disks.old.items) why world.new (map D.seen disks.new.items) (WillFit (λ scenario. rules.global_alone scenario tx steps.now)) (λ scenario. rules.global_alone scenario tx steps.now)) }
     ensures cause { CountsTell result (map D.seen disks.old.items) (map D.seen disks.new.items) }
 {
     world.apply(alloc, disks, Command::Go(tx))?;
@@ -139,7 +139,7 @@ fn one_alone<D: Disk>(
     requires told { IsTrue D.tells }
     requires stood { SomeStory (Stands D.tells world.old (map D.seen disks.old.items)) (WillFit (λ scenario. rules.one_alone scenario line.now line.now.home)) }
     ensures done { OnOk result (Reaches D.tells world.old (map D.seen disks.old.items) world.new (map D.seen disks.new.items) (WillFit (λ scenario. rules.one_alone scenario line.now line.now.home)) (λ scenario. rules.one_alone scenario line.now line.now.home)) }
-    ensures failed { IfErr result (λ why. FallsShort D.tells world.old (map D.seen disks.old.items) why world.new (map D.seen disks.new.items) (WillFit (λ scenario. rules.one_alone scenario line.now line.now.home)) (λ scenario. rules.one_alone scenario line.now line.now.home)) }
+    ensures failed { IfErr result (λ why. FallsShort D.seen D.tells world.old (map D.seen disks.old.items) why world.new (map D.seen disks.new.items) (WillFit (λ scenario. rules.one_alone scenario line.now line.now.home)) (λ scenario. rules.one_alone scenario line.now line.now.home)) }
     ensures cause { CountsTell result (map D.seen disks.old.items) (map D.seen disks.new.items) }
 {
     match line.home {
@@ -158,7 +158,7 @@ fn each_alone<D: Disk>(
     requires told { IsTrue D.tells }
     requires stood { SomeStory (Stands D.tells world.old (map D.seen disks.old.items)) (WillFit (all_alone lines.now)) }
     ensures done { OnOk result (Reaches D.tells world.old (map D.seen disks.old.items) world.new (map D.seen disks.new.items) (WillFit (all_alone lines.now)) (all_alone lines.now)) }
-    ensures failed { IfErr result (λ why. FallsShort D.tells world.old (map D.seen disks.old.items) why world.new (map D.seen disks.new.items) (WillFit (all_alone lines.now)) (all_alone lines.now)) }
+    ensures failed { IfErr result (λ why. FallsShort D.seen D.tells world.old (map D.seen disks.old.items) why world.new (map D.seen disks.new.items) (WillFit (all_alone lines.now)) (all_alone lines.now)) }
     ensures cause { CountsTell result (map D.seen disks.old.items) (map D.seen disks.new.items) }
 {
     for line in lines {
@@ -181,7 +181,7 @@ pub fn finish_alone<D: Disk>(
     ensures done { OnOk result (Reaches D.tells world.old (map D.seen disks.old.items) world.new (map D.seen disks.new.items) CanFinish finished_alone) }
     ensures commits { OnOk result (SomeStory (Stands D.tells world.old (map D.seen disks.old.items)) CanAllCommit
         → EachStory (Stands D.tells world.new (map D.seen disks.new.items)) AllCommit) }
-    ensures failed { IfErr result (λ why. FallsShort D.tells world.old (map D.seen disks.old.items) why world.new (map D.seen disks.new.items) CanFinish finished_alone) }
+    ensures failed { IfErr result (λ why. FallsShort D.seen D.tells world.old (map D.seen disks.old.items) why world.new (map D.seen disks.new.items) CanFinish finished_alone) }
     ensures cause { CountsTell result (map D.seen disks.old.items) (map D.seen disks.new.items) }
 {
     finishing_is_bounded();

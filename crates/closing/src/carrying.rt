@@ -20,7 +20,7 @@ pub(crate) fn carry_out<D: Disk>(
     requires told { IsTrue D.tells }
     requires stood { SomeStory (Stands D.tells world.old (map D.seen disks.old.items)) (FitWith commands.now) }
     ensures done { OnOk result (Reaches D.tells world.old (map D.seen disks.old.items) world.new (map D.seen disks.new.items) (FitWith commands.now) (λ session before. with_commands commands.now before)) }
-    ensures failed { IfErr result (λ why. FallsShort D.tells world.old (map D.seen disks.old.items) why world.new (map D.seen disks.new.items) (FitWith commands.now) (λ session before. with_commands commands.now before)) }
+    ensures failed { IfErr result (λ why. FallsShort D.seen D.tells world.old (map D.seen disks.old.items) why world.new (map D.seen disks.new.items) (FitWith commands.now) (λ session before. with_commands commands.now before)) }
     ensures cause { CountsTell result (map D.seen disks.old.items) (map D.seen disks.new.items) }
 {
     for command in commands {

@@ -18,7 +18,7 @@ fn take_all<D: Disk>(alloc: Global, world: &mut World, disks: &mut Vec<D>) -> Re
     requires told { IsTrue D.tells }
     requires stood { SomeStory (Stands D.tells world.old (map D.seen disks.old.items)) (WillFit taken) }
     ensures done { OnOk result (Reaches D.tells world.old (map D.seen disks.old.items) world.new (map D.seen disks.new.items) (WillFit taken) taken) }
-    ensures failed { IfErr result (λ why. FallsShort D.tells world.old (map D.seen disks.old.items) why world.new (map D.seen disks.new.items) (WillFit taken) taken) }
+    ensures failed { IfErr result (λ why. FallsShort D.seen D.tells world.old (map D.seen disks.old.items) why world.new (map D.seen disks.new.items) (WillFit taken) taken) }
     ensures cause { CountsTell result (map D.seen disks.old.items) (map D.seen disks.new.items) }
 {
     let Ok(places) = last_places(alloc, world) else {
@@ -63,7 +63,7 @@ pub(crate) fn give_sent<D: Disk>(
     requires told { IsTrue D.tells }
     requires stood { SomeStory (Stands D.tells world.old (map D.seen disks.old.items)) (WillFit given) }
     ensures done { OnOk result (Reaches D.tells world.old (map D.seen disks.old.items) world.new (map D.seen disks.new.items) (WillFit given) given) }
-    ensures failed { IfErr result (λ why. FallsShort D.tells world.old (map D.seen disks.old.items) why world.new (map D.seen disks.new.items) (WillFit given) given) }
+    ensures failed { IfErr result (λ why. FallsShort D.seen D.tells world.old (map D.seen disks.old.items) why world.new (map D.seen disks.new.items) (WillFit given) given) }
     ensures cause { CountsTell result (map D.seen disks.old.items) (map D.seen disks.new.items) }
 {
     let Ok(places) = last_places(alloc, world) else {
@@ -85,7 +85,7 @@ pub(crate) fn deliver<D: Disk>(
     requires told { IsTrue D.tells }
     requires stood { SomeStory (Stands D.tells world.old (map D.seen disks.old.items)) (WillFit (λ session. delivered session place)) }
     ensures done { OnOk result (Reaches D.tells world.old (map D.seen disks.old.items) world.new (map D.seen disks.new.items) (WillFit (λ session. delivered session place)) (λ session. delivered session place)) }
-    ensures failed { IfErr result (λ why. FallsShort D.tells world.old (map D.seen disks.old.items) why world.new (map D.seen disks.new.items) (WillFit (λ session. delivered session place)) (λ session. delivered session place)) }
+    ensures failed { IfErr result (λ why. FallsShort D.seen D.tells world.old (map D.seen disks.old.items) why world.new (map D.seen disks.new.items) (WillFit (λ session. delivered session place)) (λ session. delivered session place)) }
     ensures cause { CountsTell result (map D.seen disks.old.items) (map D.seen disks.new.items) }
 {
     let command = Command::Give {

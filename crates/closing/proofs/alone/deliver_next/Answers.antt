@@ -1,8 +1,7 @@
-use Rattle.std.proofs.Common.{◌∷◌, List, map, ◌∙◌, ap}
+use Rattle.std.proofs.Common.{◌∷◌, List, map, refl, ◌∙◌, ap}
 use Rattle.std.proofs.lemmas.Result.{err_from_is_err_and}
 use Rattle.fed_rules.specs.declared.commands.Command.{Command}
 use Rattle.fed_rules.specs.declared.commands.Place.{Place}
-use Rattle.fed_world.specs.declared.errors.WorldErr.TheVariants as Err_is
 use Rattle.fed_rules.specs.declared.scenario.Scenario.{Scenario}
 use Rattle.fed_rules.specs.Closing.{sent_next}
 use Rattle.fed_rules.specs.Sessions.{fresh}
@@ -13,7 +12,7 @@ use Rattle.closing.specs.Towards.{Fits}
 use Rattle.closing.proofs.Deliveries.{next_grows}
 use Rattle.fed_world.proofs.Faults.{failed_later}
 use Rattle.closing.proofs.Grows.{taken_grows}
-use Rattle.closing.proofs.Towards.{extends_here, extends_one, fails_at, fails_within, fits_less, room_one, short_here}
+use Rattle.closing.proofs.Towards.{extends_here, extends_one, fails_at, fails_within, fits_less, room_one, short_here, short_within}
 use Rattle.closing.proofs.World.{has_lines}
 use Rattle.closing.proofs.alone.deliver_next.Goals as goal
 
@@ -33,16 +32,16 @@ returns-in_err-apply-clause-failed g c =
     rw (p.1, p.2) (λ scenario commands s fits.
     let place = c.args.place in
     let one = give_of place ∷ commands in
-    fails_within g.D.Disk.tells c.apply.new.self (map g.D.Disk.seen c.apply.new.disks.items) (fresh scenario) c.in_err-apply.field-0.0 (delivered_next place scenario commands) one commands commands
+    fails_within g.D.Disk.seen g.D.Disk.tells c.apply.new.self (map g.D.Disk.seen c.apply.new.disks.items) (fresh scenario) c.in_err-apply.field-0.0 (delivered_next place scenario commands) one commands commands
     (taken_grows (fresh scenario) one) (extends_here commands)
-    (fails_at g.D.Disk.tells c.apply.new.self (map g.D.Disk.seen c.apply.new.disks.items) (fresh scenario) c.in_err-apply.field-0.0 (give_of place) commands
+    _ _ refl (fails_at g.D.Disk.seen g.D.Disk.tells c.apply.new.self (map g.D.Disk.seen c.apply.new.disks.items) (fresh scenario) c.in_err-apply.field-0.0 (give_of place) commands c.args.world.now c.args.disks.now.items s c.in_err-apply.ensures.cause
     (c.in_err-apply.ensures.failed (fresh scenario) commands s (room scenario place commands fits))))
 
 pub returns-in_default-clause-failed : goal.returns-in_default-clause-failed
 returns-in_default-clause-failed g c scenario commands s fits =
     let place = c.args.place in
     let one = give_of place ∷ commands in
-    fails_within g.D.Disk.tells c.apply.new.self (map g.D.Disk.seen c.apply.new.disks.items) (fresh scenario) Err_is.Memory (delivered_next place scenario commands) (delivered_next place scenario commands) one commands
+    short_within g.D.Disk.tells c.apply.new.self (map g.D.Disk.seen c.apply.new.disks.items) (fresh scenario) (delivered_next place scenario commands) (delivered_next place scenario commands) one commands
     (extends_here (delivered_next place scenario commands)) (extends_one (give_of place) commands)
     (short_here g.D.Disk.tells c.apply.new.self (map g.D.Disk.seen c.apply.new.disks.items) (fresh scenario) (delivered_next place scenario commands) one (taken_grows (fresh scenario) one)
     (c.in_ok-apply.ensures.applied (fresh scenario) commands s (room scenario place commands fits)))
@@ -64,8 +63,8 @@ returns-in_err-take_sent-clause-failed g c =
     let place = c.args.place in
     let one = give_of place ∷ commands in
     let whole = delivered_next place scenario commands in
-    fails_within g.D.Disk.tells c.take_sent.new.world (map g.D.Disk.seen c.take_sent.new.disks.items) (fresh scenario) c.in_err-take_sent.field-0.0 whole whole one commands (extends_here whole) (extends_one (give_of place) commands)
-    (c.in_err-take_sent.ensures.failed (fresh scenario) one (c.in_ok-apply.ensures.applied (fresh scenario) commands s (room scenario place commands fits)) fits))
+    fails_within g.D.Disk.seen g.D.Disk.tells c.take_sent.new.world (map g.D.Disk.seen c.take_sent.new.disks.items) (fresh scenario) c.in_err-take_sent.field-0.0 whole whole one commands (extends_here whole) (extends_one (give_of place) commands)
+    _ _ c.in_ok-apply.ensures.cause (c.in_err-take_sent.ensures.failed (fresh scenario) one (c.in_ok-apply.ensures.applied (fresh scenario) commands s (room scenario place commands fits)) fits))
 
 pub returns-in_err-take_sent-clause-cause : goal.returns-in_err-take_sent-clause-cause
 returns-in_err-take_sent-clause-cause g c =
@@ -95,7 +94,7 @@ returns-clause-failed g c scenario commands s fits =
     let one = give_of place ∷ commands in
     let whole = delivered_next place scenario commands in
     let last = c.in_ok-take_sent.ensures.done (fresh scenario) one (c.in_ok-apply.ensures.applied (fresh scenario) commands s (room scenario place commands fits)) fits in
-    fails_within g.D.Disk.tells c.take_sent.new.world (map g.D.Disk.seen c.take_sent.new.disks.items) (fresh scenario) Err_is.Memory whole whole whole commands (extends_here whole) (next_grows scenario place commands)
+    short_within g.D.Disk.tells c.take_sent.new.world (map g.D.Disk.seen c.take_sent.new.disks.items) (fresh scenario) whole whole whole commands (extends_here whole) (next_grows scenario place commands)
     (short_here g.D.Disk.tells c.take_sent.new.world (map g.D.Disk.seen c.take_sent.new.disks.items) (fresh scenario) whole whole (extends_here whole) last)
 
 pub returns-clause-cause : goal.returns-clause-cause

@@ -41,9 +41,9 @@ returns-in_err-one_alone-clause-failed g c =
     let add = add_line scenario in
     let grows = one_grows scenario in
     let mid = all_alone (take i items) scenario before in
-    fails_within g.D.Disk.tells c.one_alone.new.world (map g.D.Disk.seen c.one_alone.new.disks.items) (fresh scenario) c.in_err-one_alone.field-0.0 (all_alone items scenario before) (add (get_or items i c.line-item.result) mid) mid before
+    fails_within g.D.Disk.seen g.D.Disk.tells c.one_alone.new.world (map g.D.Disk.seen c.one_alone.new.disks.items) (fresh scenario) c.in_err-one_alone.field-0.0 (all_alone items scenario before) (add (get_or items i c.line-item.result) mid) mid before
     (next_begins add grows items i c.line-item.result before c.loop-line-test.true) (each_extends add grows (take i items) before)
-    (subst (λ (line : TxLine). FailsToward g.D.Disk.tells c.in_err-one_alone.field-0.0 c.one_alone.new.world (map g.D.Disk.seen c.one_alone.new.disks.items) (add line mid) scenario mid) c.line-item.is
+    _ _ c.loop-line.invariant.calm (subst (λ (line : TxLine). FailsToward g.D.Disk.seen g.D.Disk.tells c.in_err-one_alone.field-0.0 (map g.D.Disk.seen c.loop-line.disks.items) c.one_alone.new.world (map g.D.Disk.seen c.one_alone.new.disks.items) (add line mid) scenario mid) c.line-item.is
     (c.in_err-one_alone.ensures.failed scenario mid (c.loop-line.invariant.stands scenario before s fits)
     (subst (λ (line : TxLine). Fits (fresh scenario) (add line mid)) (sym c.line-item.is) (room_for add grows (fresh scenario) items i c.line-item.result before c.loop-line-test.true fits)))))
 

@@ -46,7 +46,7 @@ returns-clause-failed g c =
     (λ why failed scenario commands s can.
     let whole = subst IsScenario (c.scenario.ensures (fresh scenario) commands (has_lines _ _ _ _ _ s)) c.every_scenario_is_one.ensures in
     let are = ap (λ all. all_alone all scenario commands) (c.deref.ensures.value ∙ c.in-Ok.ensures scenario commands (recalls _ _ _ _ _ s) can.up) in
-    subst (λ all. FailsToward g.D.Disk.tells why c.each_alone.new.world (map g.D.Disk.seen c.each_alone.new.disks.items) all scenario commands) are
+    subst (λ all. FailsToward g.D.Disk.seen g.D.Disk.tells why (map g.D.Disk.seen c.args.disks.now.items) c.each_alone.new.world (map g.D.Disk.seen c.each_alone.new.disks.items) all scenario commands) are
     (failed scenario commands s (subst (Fits (fresh scenario)) (sym are) (finish_fits c.finishing_is_bounded.ensures scenario commands whole can.few))))
     c.each_alone.ensures.failed
 

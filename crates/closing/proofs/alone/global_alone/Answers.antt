@@ -1,4 +1,4 @@
-use Rattle.std.proofs.Common.{◌≡◌, ℕ, suc, ◌+◌, ◌-◌, ◌*◌, ◌<◌, ◌∷◌, ◌++◌, List, length, map, drop, get_or, ◌∙◌, ap, arith}
+use Rattle.std.proofs.Common.{◌≡◌, ℕ, suc, ◌+◌, ◌-◌, ◌*◌, ◌<◌, ◌∷◌, ◌++◌, List, length, map, drop, get_or, refl, ◌∙◌, ap, arith}
 use Rattle.std.proofs.lemmas.List.{drop_all}
 use Rattle.std.proofs.lemmas.Result.{err_from_is_err_and}
 use Rattle.mdb_base.specs.declared.acts.Step.{Step}
@@ -10,13 +10,12 @@ use Rattle.fed_rules.specs.declared.scenario.Scenario.{Scenario}
 use Rattle.fed_rules.specs.Closing as rules
 use Rattle.fed_rules.specs.Closing.{deliver_all, last_sends}
 use Rattle.fed_rules.specs.Sessions.{fresh}
-use Rattle.fed_world.specs.declared.errors.WorldErr.TheVariants as Err_is
 use Rattle.closing.specs.Alone.{delivered_next}
 use Rattle.fed_world.specs.Worlds.{HasRoom}
 use Rattle.closing.specs.Towards.{Fits}
 use Rattle.closing.proofs.Deliveries.{all_delivered, delivers_grow, fuel_spent, delivery_begins, next_grows, delivery_rest}
 use Rattle.fed_world.proofs.Faults.{failed_later}
-use Rattle.closing.proofs.Towards.{Extends, extends_here, extends_one, extends_twice, fails_at, fails_within, fits_less, room_one, short_here}
+use Rattle.closing.proofs.Towards.{Extends, extends_here, extends_one, extends_twice, fails_at, fails_within, fits_less, room_one, short_here, short_within}
 use Rattle.closing.proofs.World.{has_lines}
 use Rattle.closing.proofs.alone.global_alone.Goals as goal
 
@@ -47,9 +46,9 @@ returns-in_err-apply-clause-failed g c =
     rw (p.1, p.2) (λ scenario commands s fits.
     let tx = c.args.tx in
     let steps = c.args.steps.now in
-    fails_within g.D.Disk.tells c.apply.new.self (map g.D.Disk.seen c.apply.new.disks.items) (fresh scenario) c.in_err-apply.field-0.0 (rules.global_alone scenario tx steps commands) (one tx commands) commands commands
+    fails_within g.D.Disk.seen g.D.Disk.tells c.apply.new.self (map g.D.Disk.seen c.apply.new.disks.items) (fresh scenario) c.in_err-apply.field-0.0 (rules.global_alone scenario tx steps commands) (one tx commands) commands commands
     (first scenario tx steps commands) (extends_here commands)
-    (fails_at g.D.Disk.tells c.apply.new.self (map g.D.Disk.seen c.apply.new.disks.items) (fresh scenario) c.in_err-apply.field-0.0 (Cmd.Go tx) commands
+    _ _ refl (fails_at g.D.Disk.seen g.D.Disk.tells c.apply.new.self (map g.D.Disk.seen c.apply.new.disks.items) (fresh scenario) c.in_err-apply.field-0.0 (Cmd.Go tx) commands c.args.world.now c.args.disks.now.items s c.in_err-apply.ensures.cause
     (c.in_err-apply.ensures.failed (fresh scenario) commands s (room scenario tx steps commands fits))))
 
 pub returns-in_default-clause-failed : goal.returns-in_default-clause-failed
@@ -57,7 +56,7 @@ returns-in_default-clause-failed g c scenario commands s fits =
     let tx = c.args.tx in
     let steps = c.args.steps.now in
     let whole = rules.global_alone scenario tx steps commands in
-    fails_within g.D.Disk.tells c.apply.new.self (map g.D.Disk.seen c.apply.new.disks.items) (fresh scenario) Err_is.Memory whole whole (one tx commands) commands (extends_here whole) (extends_one (Cmd.Go tx) commands)
+    short_within g.D.Disk.tells c.apply.new.self (map g.D.Disk.seen c.apply.new.disks.items) (fresh scenario) whole whole (one tx commands) commands (extends_here whole) (extends_one (Cmd.Go tx) commands)
     (short_here g.D.Disk.tells c.apply.new.self (map g.D.Disk.seen c.apply.new.disks.items) (fresh scenario) whole (one tx commands) (first scenario tx steps commands)
     (c.in_ok-apply.ensures.applied (fresh scenario) commands s (room scenario tx steps commands fits)))
 
@@ -111,9 +110,9 @@ returns-in_err-sent-clause-failed g c =
     let n = c.loop-next.next in
     let place = c.index-place.result.now in
     let whole = rules.global_alone scenario tx steps commands in
-    fails_within g.D.Disk.tells c.deliver_next.new.world (map g.D.Disk.seen c.deliver_next.new.disks.items) (fresh scenario) c.in_err-sent.field-0.0 whole (delivered_next place scenario w.mid) w.mid commands
+    fails_within g.D.Disk.seen g.D.Disk.tells c.deliver_next.new.world (map g.D.Disk.seen c.deliver_next.new.disks.items) (fresh scenario) c.in_err-sent.field-0.0 whole (delivered_next place scenario w.mid) w.mid commands
     (delivery_begins scenario c.loop-next.places.items n (4 * length steps - n) (4 * length steps - (n + 1)) c.index-place.result.now w.mid whole (omega (arith, c.loop-next.places.ok.0, c.len.ensures, c.if-next-len.false)) c.index-place.ensures (one_less (4 * length steps) n c.loop-next-test.true) w.rest) w.on
-    (c.in_err-sent.ensures.failed scenario w.mid w.stood (next_fits scenario tx steps commands w.mid c.loop-next.places.items n c.index-place.result.now (omega (arith, c.loop-next.places.ok.0, c.len.ensures, c.if-next-len.false)) c.index-place.ensures c.loop-next-test.true w.rest fits)))
+    _ _ c.loop-next.invariant.calm (c.in_err-sent.ensures.failed scenario w.mid w.stood (next_fits scenario tx steps commands w.mid c.loop-next.places.items n c.index-place.result.now (omega (arith, c.loop-next.places.ok.0, c.len.ensures, c.if-next-len.false)) c.index-place.ensures c.loop-next-test.true w.rest fits)))
 
 pub returns-in_err-sent-clause-cause : goal.returns-in_err-sent-clause-cause
 returns-in_err-sent-clause-cause g c =
@@ -131,7 +130,7 @@ returns-in_default-extend_from_slice-clause-failed g c scenario commands s fits 
     let next = delivered_next place scenario w.mid in
     let begins = delivery_begins scenario c.loop-next.places.items n (4 * length steps - n) (4 * length steps - (n + 1)) c.index-place.result.now w.mid whole (omega (arith, c.loop-next.places.ok.0, c.len.ensures, c.if-next-len.false)) c.index-place.ensures (one_less (4 * length steps) n c.loop-next-test.true) w.rest in
     let stood = c.in_ok-sent.ensures.done scenario w.mid w.stood (next_fits scenario tx steps commands w.mid c.loop-next.places.items n c.index-place.result.now (omega (arith, c.loop-next.places.ok.0, c.len.ensures, c.if-next-len.false)) c.index-place.ensures c.loop-next-test.true w.rest fits) in
-    fails_within g.D.Disk.tells c.deliver_next.new.world (map g.D.Disk.seen c.deliver_next.new.disks.items) (fresh scenario) Err_is.Memory whole whole next commands (extends_here whole) (extends_twice commands w.mid next (next_grows scenario place w.mid) w.on)
+    short_within g.D.Disk.tells c.deliver_next.new.world (map g.D.Disk.seen c.deliver_next.new.disks.items) (fresh scenario) whole whole next commands (extends_here whole) (extends_twice commands w.mid next (next_grows scenario place w.mid) w.on)
     (short_here g.D.Disk.tells c.deliver_next.new.world (map g.D.Disk.seen c.deliver_next.new.disks.items) (fresh scenario) whole next begins stood)
 
 pub returns-in_default-extend_from_slice-clause-cause : goal.returns-in_default-extend_from_slice-clause-cause

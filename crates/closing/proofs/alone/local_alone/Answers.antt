@@ -1,4 +1,4 @@
-use Rattle.std.proofs.Common.{◌∷◌, List, map, ◌∙◌}
+use Rattle.std.proofs.Common.{◌∷◌, List, map, refl, ◌∙◌}
 use Rattle.std.proofs.lemmas.Result.{err_from_is_err_and}
 use Rattle.mdb_base.specs.declared.acts.Step.{Step}
 use Rattle.mdb_base.specs.declared.names.Tx.{Tx}
@@ -11,7 +11,7 @@ use Rattle.fed_world.specs.Worlds.{HasRoom}
 use Rattle.closing.specs.Towards.{Fits}
 use Rattle.closing.proofs.Deliveries.{steps_grow}
 use Rattle.fed_world.proofs.Faults.{failed_later, told_later}
-use Rattle.closing.proofs.Towards.{Extends, extends_here, extends_one, extends_twice, fails_at, fails_within, fits_less, on_failure, on_success, room_one}
+use Rattle.closing.proofs.Towards.{Extends, extends_here, extends_one, extends_twice, fails_at, fails_within, fits_less, on_failure_told, on_success, room_one}
 use Rattle.closing.proofs.alone.local_alone.Goals as goal
 
 -- behind the begin, and behind each step
@@ -47,9 +47,9 @@ returns-in_err-apply-clause-failed g c =
     rw (p.1, p.2) (λ scenario commands s fits.
     let tx = c.args.tx in
     let steps = c.args.steps.now in
-    fails_within g.D.Disk.tells c.apply.new.self (map g.D.Disk.seen c.apply.new.disks.items) (fresh scenario) c.in_err-apply.field-0.0 (rules.local_alone tx steps commands) (one tx commands) commands commands
+    fails_within g.D.Disk.seen g.D.Disk.tells c.apply.new.self (map g.D.Disk.seen c.apply.new.disks.items) (fresh scenario) c.in_err-apply.field-0.0 (rules.local_alone tx steps commands) (one tx commands) commands commands
     (first tx steps commands) (extends_here commands)
-    (fails_at g.D.Disk.tells c.apply.new.self (map g.D.Disk.seen c.apply.new.disks.items) (fresh scenario) c.in_err-apply.field-0.0 (Cmd.Begin tx) commands
+    _ _ refl (fails_at g.D.Disk.seen g.D.Disk.tells c.apply.new.self (map g.D.Disk.seen c.apply.new.disks.items) (fresh scenario) c.in_err-apply.field-0.0 (Cmd.Begin tx) commands c.args.world.now c.args.disks.now.items s c.in_err-apply.ensures.cause
     (c.in_err-apply.ensures.failed (fresh scenario) commands s (room scenario tx steps commands fits))))
 
 pub steps_alone-requires-clause-stood : goal.steps_alone-requires-clause-stood
@@ -69,9 +69,9 @@ returns-in_err-steps_alone-clause-failed g c =
     let tx = c.args.tx in
     let steps = c.args.steps.now in
     let next = c.in_ok-apply.ensures.applied (fresh scenario) commands s (room scenario tx steps commands fits) in
-    fails_within g.D.Disk.tells c.steps_alone.new.world (map g.D.Disk.seen c.steps_alone.new.disks.items) (fresh scenario) c.in_err-steps_alone.field-0.0 (rules.local_alone tx steps commands) (two tx steps commands) (one tx commands) commands
+    fails_within g.D.Disk.seen g.D.Disk.tells c.steps_alone.new.world (map g.D.Disk.seen c.steps_alone.new.disks.items) (fresh scenario) c.in_err-steps_alone.field-0.0 (rules.local_alone tx steps commands) (two tx steps commands) (one tx commands) commands
     (extends_one (Cmd.Commit tx) (two tx steps commands)) (extends_one (Cmd.Begin tx) commands)
-    (c.in_err-steps_alone.ensures.failed scenario (one tx commands) next (fits_two scenario tx steps commands fits)))
+    _ _ c.in_ok-apply.ensures.cause (c.in_err-steps_alone.ensures.failed scenario (one tx commands) next (fits_two scenario tx steps commands fits)))
 
 pub returns-in_err-steps_alone-clause-cause : goal.returns-in_err-steps_alone-clause-cause
 returns-in_err-steps_alone-clause-cause g c =
@@ -104,16 +104,16 @@ returns-clause-done g c =
 
 pub returns-clause-failed : goal.returns-clause-failed
 returns-clause-failed g c =
-    on_failure _ _ c.apply-2.result
-    (λ why failed scenario commands s fits.
+    on_failure_told _ _ c.apply-2.result _ _
+    (λ why told failed scenario commands s fits.
     let tx = c.args.tx in
     let steps = c.args.steps.now in
     let next = c.in_ok-apply.ensures.applied (fresh scenario) commands s (room scenario tx steps commands fits) in
     let last = c.in_ok-steps_alone.ensures.done scenario (one tx commands) next (fits_two scenario tx steps commands fits) in
     let whole = rules.local_alone tx steps commands in
-    fails_within g.D.Disk.tells c.apply-2.new.self (map g.D.Disk.seen c.apply-2.new.disks.items) (fresh scenario) why whole whole (two tx steps commands) commands (extends_here whole) (second tx steps commands)
-    (fails_at g.D.Disk.tells c.apply-2.new.self (map g.D.Disk.seen c.apply-2.new.disks.items) (fresh scenario) why (Cmd.Commit tx) (two tx steps commands) (failed (fresh scenario) (two tx steps commands) last (last_room scenario tx steps commands fits))))
-    c.apply-2.ensures.failed
+    fails_within g.D.Disk.seen g.D.Disk.tells c.apply-2.new.self (map g.D.Disk.seen c.apply-2.new.disks.items) (fresh scenario) why whole whole (two tx steps commands) commands (extends_here whole) (second tx steps commands)
+    _ _ (c.in_ok-steps_alone.ensures.cause ∙ c.in_ok-apply.ensures.cause) (fails_at g.D.Disk.seen g.D.Disk.tells c.apply-2.new.self (map g.D.Disk.seen c.apply-2.new.disks.items) (fresh scenario) why (Cmd.Commit tx) (two tx steps commands) c.steps_alone.new.world c.steps_alone.new.disks.items last told (failed (fresh scenario) (two tx steps commands) last (last_room scenario tx steps commands fits))))
+    c.apply-2.ensures.cause c.apply-2.ensures.failed
 
 pub returns-clause-cause : goal.returns-clause-cause
 returns-clause-cause g c =

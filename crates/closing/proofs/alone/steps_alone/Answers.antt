@@ -27,9 +27,10 @@ returns-in_err-apply-clause-failed g c =
     let tx = c.args.tx in
     let steps = c.args.steps.now in
     let mid = rules.steps_alone tx (take c.loop-done.done steps) before in
-    fails_within g.D.Disk.tells c.apply.new.self (map g.D.Disk.seen c.apply.new.disks.items) (fresh scenario) c.in_err-apply.field-0.0 (rules.steps_alone tx steps before) (Cmd.Step tx ∷ mid) mid before
+    fails_within g.D.Disk.seen g.D.Disk.tells c.apply.new.self (map g.D.Disk.seen c.apply.new.disks.items) (fresh scenario) c.in_err-apply.field-0.0 (rules.steps_alone tx steps before) (Cmd.Step tx ∷ mid) mid before
     (front_steps tx steps c.loop-done.done before c.loop-done-test.true) (steps_grow tx (take c.loop-done.done steps) before)
-    (fails_at g.D.Disk.tells c.apply.new.self (map g.D.Disk.seen c.apply.new.disks.items) (fresh scenario) c.in_err-apply.field-0.0 (Cmd.Step tx) mid
+    _ _ c.loop-done.invariant.calm (fails_at g.D.Disk.seen g.D.Disk.tells c.apply.new.self (map g.D.Disk.seen c.apply.new.disks.items) (fresh scenario) c.in_err-apply.field-0.0 (Cmd.Step tx) mid c.loop-done.world c.loop-done.disks.items
+    (c.loop-done.invariant.stands scenario before s fits) c.in_err-apply.ensures.cause
     (c.in_err-apply.ensures.failed (fresh scenario) mid (c.loop-done.invariant.stands scenario before s fits) (room_one (fresh scenario) (Cmd.Step tx) mid (steps_fit (fresh scenario) tx steps c.loop-done.done before c.loop-done-test.true fits)))))
 
 pub returns-in_err-apply-clause-cause : goal.returns-in_err-apply-clause-cause

@@ -34,5 +34,5 @@ returns-clause-failed g c =
     on_failure _ _ c.ask_each.result
     (λ why failed session commands s can.
     let are = (ap (λ all. asks_all all session commands) c.deref.ensures.value ∙ asking_is session (story_in session commands) (sites session.plan) c.in-Ok.sites.items commands (c.in-Ok.ensures session commands (recalls _ _ _ _ _ s) can.up)) in
-    subst (λ all. FailsToward g.D.Disk.tells why c.ask_each.new.world (map g.D.Disk.seen c.ask_each.new.disks.items) all session commands) are (failed session commands s (subst (Fits session) (sym are) can.fits)))
+    subst (λ all. FailsToward g.D.Disk.seen g.D.Disk.tells why (map g.D.Disk.seen c.args.disks.now.items) c.ask_each.new.world (map g.D.Disk.seen c.ask_each.new.disks.items) all session commands) are (failed session commands s (subst (Fits session) (sym are) can.fits)))
     c.ask_each.ensures.failed

@@ -34,5 +34,5 @@ returns-clause-failed g c =
     on_failure _ _ c.carry_out.result
     (λ why failed session commands s can.
     let are = (ap (λ more. with_commands more commands) (c.deref.ensures.value ∙ c.in-Ok.ensures session commands (recalls _ _ _ _ _ s) can.up) ∙ clearing_is session (story_in session commands) (sites session.plan) commands) in
-    subst (λ all. FailsToward g.D.Disk.tells why c.carry_out.new.world (map g.D.Disk.seen c.carry_out.new.disks.items) all session commands) are (failed session commands s (subst (Fits session) (sym are) can.fits)))
+    subst (λ all. FailsToward g.D.Disk.seen g.D.Disk.tells why (map g.D.Disk.seen c.args.disks.now.items) c.carry_out.new.world (map g.D.Disk.seen c.carry_out.new.disks.items) all session commands) are (failed session commands s (subst (Fits session) (sym are) can.fits)))
     c.carry_out.ensures.failed

@@ -1,4 +1,4 @@
-use Rattle.std.proofs.Common.{map, ◌∙◌}
+use Rattle.std.proofs.Common.{map, refl, ◌∙◌}
 use Rattle.std.proofs.lemmas.Result.{err_from_is_err_and}
 use Rattle.fed_rules.specs.Closing.{closed_in}
 use Rattle.fed_world.proofs.Faults.{failed_later, told_later}
@@ -16,8 +16,8 @@ pub returns-in_err-disarm-clause-failed : goal.returns-in_err-disarm-clause-fail
 returns-in_err-disarm-clause-failed g c =
     let p = err_from_is_err_and c.from_residual.result c.from_residual.ensures.1 in
     rw (p.1, p.2) (λ session commands s can.
-    fails_within g.D.Disk.tells c.disarm.new.world (map g.D.Disk.seen c.disarm.new.disks.items) session c.in_err-disarm.field-0.0 (closed_in session commands) (first session commands) commands commands (first_in session commands) (extends_here commands)
-    (c.in_err-disarm.ensures.failed session commands s (fits_less session (closed_in session commands) (first session commands) (first_in session commands) can.fits)))
+    fails_within g.D.Disk.seen g.D.Disk.tells c.disarm.new.world (map g.D.Disk.seen c.disarm.new.disks.items) session c.in_err-disarm.field-0.0 (closed_in session commands) (first session commands) commands commands (first_in session commands) (extends_here commands)
+    _ _ refl (c.in_err-disarm.ensures.failed session commands s (fits_less session (closed_in session commands) (first session commands) (first_in session commands) can.fits)))
 
 pub bring_up-requires-clause-stood : goal.bring_up-requires-clause-stood
 bring_up-requires-clause-stood g c =
@@ -31,8 +31,8 @@ returns-in_err-bring_up-clause-failed g c =
     let p = err_from_is_err_and c.from_residual-in_err-bring_up.result c.from_residual-in_err-bring_up.ensures.1 in
     rw (p.1, p.2) (λ session commands s can.
     let s1 = c.in_ok-disarm.ensures.done session commands s (fits_less session (closed_in session commands) (first session commands) (first_in session commands) can.fits) in
-    fails_within g.D.Disk.tells c.bring_up.new.world (map g.D.Disk.seen c.bring_up.new.disks.items) session c.in_err-bring_up.field-0.0 (closed_in session commands) (second session commands) (first session commands) commands (second_in session commands) (first_on session commands)
-    (c.in_err-bring_up.ensures.failed session (first session commands) s1 (fits_less session (closed_in session commands) (second session commands) (second_in session commands) can.fits)))
+    fails_within g.D.Disk.seen g.D.Disk.tells c.bring_up.new.world (map g.D.Disk.seen c.bring_up.new.disks.items) session c.in_err-bring_up.field-0.0 (closed_in session commands) (second session commands) (first session commands) commands (second_in session commands) (first_on session commands)
+    _ _ c.in_ok-disarm.ensures.cause (c.in_err-bring_up.ensures.failed session (first session commands) s1 (fits_less session (closed_in session commands) (second session commands) (second_in session commands) can.fits)))
 
 pub returns-in_err-bring_up-clause-cause : goal.returns-in_err-bring_up-clause-cause
 returns-in_err-bring_up-clause-cause g c =
@@ -56,8 +56,8 @@ returns-in_err-give_up-clause-failed g c =
     let stays = can.stays in
     let s1 = c.in_ok-disarm.ensures.done session commands s (fits_less session (closed_in session commands) (first session commands) (first_in session commands) can.fits) in
     let s2 = c.in_ok-bring_up.ensures.done session (first session commands) s1 (fits_less session (closed_in session commands) (second session commands) (second_in session commands) can.fits) in
-    fails_within g.D.Disk.tells c.give_up.new.world (map g.D.Disk.seen c.give_up.new.disks.items) session c.in_err-give_up.field-0.0 (closed_in session commands) (third session commands) (second session commands) commands (third_in session commands) (second_on session commands)
-    (c.in_err-give_up.ensures.failed session (second session commands) s2 (record { up = stays.brought_up; fits = (fits_less session (closed_in session commands) (third session commands) (third_in session commands) can.fits) })))
+    fails_within g.D.Disk.seen g.D.Disk.tells c.give_up.new.world (map g.D.Disk.seen c.give_up.new.disks.items) session c.in_err-give_up.field-0.0 (closed_in session commands) (third session commands) (second session commands) commands (third_in session commands) (second_on session commands)
+    _ _ (c.in_ok-bring_up.ensures.cause ∙ c.in_ok-disarm.ensures.cause) (c.in_err-give_up.ensures.failed session (second session commands) s2 (record { up = stays.brought_up; fits = (fits_less session (closed_in session commands) (third session commands) (third_in session commands) can.fits) })))
 
 pub returns-in_err-give_up-clause-cause : goal.returns-in_err-give_up-clause-cause
 returns-in_err-give_up-clause-cause g c =
@@ -84,8 +84,8 @@ returns-in_err-clear-clause-failed g c =
     let s1 = c.in_ok-disarm.ensures.done session commands s (fits_less session (closed_in session commands) (first session commands) (first_in session commands) can.fits) in
     let s2 = c.in_ok-bring_up.ensures.done session (first session commands) s1 (fits_less session (closed_in session commands) (second session commands) (second_in session commands) can.fits) in
     let s3 = c.in_ok-give_up.ensures.done session (second session commands) s2 (record { up = stays.brought_up; fits = (fits_less session (closed_in session commands) (third session commands) (third_in session commands) can.fits) }) in
-    fails_within g.D.Disk.tells c.clear.new.world (map g.D.Disk.seen c.clear.new.disks.items) session c.in_err-clear.field-0.0 (closed_in session commands) (fourth session commands) (third session commands) commands (fourth_in session commands) (third_on session commands)
-    (c.in_err-clear.ensures.failed session (third session commands) s3 (record { up = stays.given_up; fits = (fits_less session (closed_in session commands) (fourth session commands) (fourth_in session commands) can.fits) })))
+    fails_within g.D.Disk.seen g.D.Disk.tells c.clear.new.world (map g.D.Disk.seen c.clear.new.disks.items) session c.in_err-clear.field-0.0 (closed_in session commands) (fourth session commands) (third session commands) commands (fourth_in session commands) (third_on session commands)
+    _ _ (c.in_ok-give_up.ensures.cause ∙ (c.in_ok-bring_up.ensures.cause ∙ c.in_ok-disarm.ensures.cause)) (c.in_err-clear.ensures.failed session (third session commands) s3 (record { up = stays.given_up; fits = (fits_less session (closed_in session commands) (fourth session commands) (fourth_in session commands) can.fits) })))
 
 pub returns-in_err-clear-clause-cause : goal.returns-in_err-clear-clause-cause
 returns-in_err-clear-clause-cause g c =
@@ -115,8 +115,8 @@ returns-in_err-end_known-clause-failed g c =
     let s2 = c.in_ok-bring_up.ensures.done session (first session commands) s1 (fits_less session (closed_in session commands) (second session commands) (second_in session commands) can.fits) in
     let s3 = c.in_ok-give_up.ensures.done session (second session commands) s2 (record { up = stays.brought_up; fits = (fits_less session (closed_in session commands) (third session commands) (third_in session commands) can.fits) }) in
     let s4 = c.in_ok-clear.ensures.done session (third session commands) s3 (record { up = stays.given_up; fits = (fits_less session (closed_in session commands) (fourth session commands) (fourth_in session commands) can.fits) }) in
-    fails_within g.D.Disk.tells c.end_known.new.world (map g.D.Disk.seen c.end_known.new.disks.items) session c.in_err-end_known.field-0.0 (closed_in session commands) (fifth session commands) (fourth session commands) commands (fifth_in session commands) (fourth_on session commands)
-    (c.in_err-end_known.ensures.failed session (fourth session commands) s4 (record { up = stays.cleared; fits = (fits_less session (closed_in session commands) (fifth session commands) (fifth_in session commands) can.fits) })))
+    fails_within g.D.Disk.seen g.D.Disk.tells c.end_known.new.world (map g.D.Disk.seen c.end_known.new.disks.items) session c.in_err-end_known.field-0.0 (closed_in session commands) (fifth session commands) (fourth session commands) commands (fifth_in session commands) (fourth_on session commands)
+    _ _ (c.in_ok-clear.ensures.cause ∙ (c.in_ok-give_up.ensures.cause ∙ (c.in_ok-bring_up.ensures.cause ∙ c.in_ok-disarm.ensures.cause))) (c.in_err-end_known.ensures.failed session (fourth session commands) s4 (record { up = stays.cleared; fits = (fits_less session (closed_in session commands) (fifth session commands) (fifth_in session commands) can.fits) })))
 
 pub returns-in_err-end_known-clause-cause : goal.returns-in_err-end_known-clause-cause
 returns-in_err-end_known-clause-cause g c =
@@ -162,8 +162,8 @@ returns-clause-failed g c =
     let s3 = c.in_ok-give_up.ensures.done session (second session commands) s2 (record { up = stays.brought_up; fits = (fits_less session (closed_in session commands) (third session commands) (third_in session commands) can.fits) }) in
     let s4 = c.in_ok-clear.ensures.done session (third session commands) s3 (record { up = stays.given_up; fits = (fits_less session (closed_in session commands) (fourth session commands) (fourth_in session commands) can.fits) }) in
     let s5 = c.in_ok-end_known.ensures.done session (fourth session commands) s4 (record { up = stays.cleared; fits = (fits_less session (closed_in session commands) (fifth session commands) (fifth_in session commands) can.fits) }) in
-    fails_within g.D.Disk.tells c.ask_all.new.world (map g.D.Disk.seen c.ask_all.new.disks.items) session why (closed_in session commands) (closed_in session commands) (fifth session commands) commands (extends_here (closed_in session commands)) (fifth_on session commands)
-    (failed session (fifth session commands) s5 (record { up = stays.ended; fits = can.fits })))
+    fails_within g.D.Disk.seen g.D.Disk.tells c.ask_all.new.world (map g.D.Disk.seen c.ask_all.new.disks.items) session why (closed_in session commands) (closed_in session commands) (fifth session commands) commands (extends_here (closed_in session commands)) (fifth_on session commands)
+    _ _ (c.in_ok-end_known.ensures.cause ∙ (c.in_ok-clear.ensures.cause ∙ (c.in_ok-give_up.ensures.cause ∙ (c.in_ok-bring_up.ensures.cause ∙ c.in_ok-disarm.ensures.cause)))) (failed session (fifth session commands) s5 (record { up = stays.ended; fits = can.fits })))
     c.ask_all.ensures.failed
 
 pub returns-clause-cause : goal.returns-clause-cause

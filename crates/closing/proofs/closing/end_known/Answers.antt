@@ -31,5 +31,5 @@ returns-clause-failed g c =
     on_failure _ _ c.send_each.result
     (λ why failed session commands s can.
     let are = ap (λ tids. for_each (rules.send_again session) tids commands) (c.deref.ensures.value ∙ c.in-Ok.ensures session commands (recalls _ _ _ _ _ s) can.up) in
-    subst (λ all. FailsToward g.D.Disk.tells why c.send_each.new.world (map g.D.Disk.seen c.send_each.new.disks.items) all session commands) are (failed session commands s (subst (Fits session) (sym are) can.fits)))
+    subst (λ all. FailsToward g.D.Disk.seen g.D.Disk.tells why (map g.D.Disk.seen c.args.disks.now.items) c.send_each.new.world (map g.D.Disk.seen c.send_each.new.disks.items) all session commands) are (failed session commands s (subst (Fits session) (sym are) can.fits)))
     c.send_each.ensures.failed

@@ -1,4 +1,4 @@
-use Rattle.std.proofs.Common.{◌∷◌, List, map}
+use Rattle.std.proofs.Common.{◌∷◌, List, map, refl}
 use Rattle.std.proofs.lemmas.Result.{err_from_is_err_and}
 use Rattle.fed_rules.specs.declared.commands.Command.{Command}
 use Rattle.fed_rules.specs.declared.commands.Place.{Place}
@@ -28,9 +28,9 @@ returns-in_err-apply-clause-failed g c =
     rw (p.1, p.2) (λ session commands s fits.
     let place = c.args.place in
     let one = give_of place ∷ commands in
-    fails_within g.D.Disk.tells c.apply.new.self (map g.D.Disk.seen c.apply.new.disks.items) session c.in_err-apply.field-0.0 (delivered session place commands) one commands commands
+    fails_within g.D.Disk.seen g.D.Disk.tells c.apply.new.self (map g.D.Disk.seen c.apply.new.disks.items) session c.in_err-apply.field-0.0 (delivered session place commands) one commands commands
     (taken_grows session one) (extends_here commands)
-    (fails_at g.D.Disk.tells c.apply.new.self (map g.D.Disk.seen c.apply.new.disks.items) session c.in_err-apply.field-0.0 (give_of place) commands
+    _ _ refl (fails_at g.D.Disk.seen g.D.Disk.tells c.apply.new.self (map g.D.Disk.seen c.apply.new.disks.items) session c.in_err-apply.field-0.0 (give_of place) commands c.args.world.now c.args.disks.now.items s c.in_err-apply.ensures.cause
     (c.in_err-apply.ensures.failed session commands s (room session place commands fits))))
 
 pub take_sent-requires-clause-stood : goal.take_sent-requires-clause-stood
@@ -56,8 +56,8 @@ returns-clause-failed g c =
     let place = c.args.place in
     let one = give_of place ∷ commands in
     let whole = delivered session place commands in
-    fails_within g.D.Disk.tells c.take_sent.new.world (map g.D.Disk.seen c.take_sent.new.disks.items) session why whole whole one commands (extends_here whole) (extends_one (give_of place) commands)
-    (failed session one (c.in_ok-apply.ensures.applied session commands s (room session place commands fits)) fits))
+    fails_within g.D.Disk.seen g.D.Disk.tells c.take_sent.new.world (map g.D.Disk.seen c.take_sent.new.disks.items) session why whole whole one commands (extends_here whole) (extends_one (give_of place) commands)
+    _ _ c.in_ok-apply.ensures.cause (failed session one (c.in_ok-apply.ensures.applied session commands s (room session place commands fits)) fits))
     c.take_sent.ensures.failed
 
 pub returns-clause-cause : goal.returns-clause-cause

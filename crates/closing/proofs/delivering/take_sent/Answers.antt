@@ -25,5 +25,5 @@ returns-in-Some-clause-failed g c =
     on_failure _ _ c.carry_out.result
     (λ why failed session commands s fits.
     let are = take_made session commands c.in-Some.place (c.in-Some.ensures session commands (has_lines _ _ _ _ _ s)) in
-    subst (λ all. FailsToward g.D.Disk.tells why c.carry_out.new.world (map g.D.Disk.seen c.carry_out.new.disks.items) all session commands) are (failed session commands s (subst (Fits session) (sym are) fits)))
+    subst (λ all. FailsToward g.D.Disk.seen g.D.Disk.tells why (map g.D.Disk.seen c.args.disks.now.items) c.carry_out.new.world (map g.D.Disk.seen c.carry_out.new.disks.items) all session commands) are (failed session commands s (subst (Fits session) (sym are) fits)))
     c.carry_out.ensures.failed

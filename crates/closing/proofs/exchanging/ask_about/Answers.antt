@@ -36,9 +36,9 @@ returns-in_err-inquire-clause-failed g c =
     let add = rules.inquire session c.args.site in
     let grows = inquire_grows session c.args.site in
     let mid = asks_about c.args.site (take i items) session before in
-    fails_within g.D.Disk.tells c.inquire.new.world (map g.D.Disk.seen c.inquire.new.disks.items) session c.in_err-inquire.field-0.0 (asks_about c.args.site items session before) (add (get_or items i none) mid) mid before
+    fails_within g.D.Disk.seen g.D.Disk.tells c.inquire.new.world (map g.D.Disk.seen c.inquire.new.disks.items) session c.in_err-inquire.field-0.0 (asks_about c.args.site items session before) (add (get_or items i none) mid) mid before
     (next_begins add grows items i none before c.loop-tid-test.true) (each_extends add grows (take i items) before)
-    (c.in_err-inquire.ensures.failed session mid (c.loop-tid.invariant.stands session before s fits) (room_for add grows session items i none before c.loop-tid-test.true fits)))
+    _ _ c.loop-tid.invariant.calm (c.in_err-inquire.ensures.failed session mid (c.loop-tid.invariant.stands session before s fits) (room_for add grows session items i none before c.loop-tid-test.true fits)))
 
 pub returns-in_err-inquire-clause-cause : goal.returns-in_err-inquire-clause-cause
 returns-in_err-inquire-clause-cause g c =

@@ -44,10 +44,10 @@ returns-in_err-ask_about-clause-failed g c =
     let add = add_at session in
     let grows = grows_at session in
     let mid = asks_all (take i items) session before in
-    fails_within g.D.Disk.tells c.ask_about.new.world (map g.D.Disk.seen c.ask_about.new.disks.items) session c.in_err-ask_about.field-0.0 (asks_all items session before) (add (get_or items i c.at-item.result) mid) mid before
+    fails_within g.D.Disk.seen g.D.Disk.tells c.ask_about.new.world (map g.D.Disk.seen c.ask_about.new.disks.items) session c.in_err-ask_about.field-0.0 (asks_all items session before) (add (get_or items i c.at-item.result) mid) mid before
     (next_begins add grows items i c.at-item.result before c.loop-at-test.true) (each_extends add grows (take i items) before)
-    (subst (λ (at : SiteTids). FailsToward g.D.Disk.tells c.in_err-ask_about.field-0.0 c.ask_about.new.world (map g.D.Disk.seen c.ask_about.new.disks.items) (add at mid) session mid) c.at-item.is
-    (subst (λ tids. FailsToward g.D.Disk.tells c.in_err-ask_about.field-0.0 c.ask_about.new.world (map g.D.Disk.seen c.ask_about.new.disks.items) (asks_about c.at-item.result.site tids session mid) session mid) c.as_slice.ensures.value
+    _ _ c.loop-at.invariant.calm (subst (λ (at : SiteTids). FailsToward g.D.Disk.seen g.D.Disk.tells c.in_err-ask_about.field-0.0 (map g.D.Disk.seen c.loop-at.disks.items) c.ask_about.new.world (map g.D.Disk.seen c.ask_about.new.disks.items) (add at mid) session mid) c.at-item.is
+    (subst (λ tids. FailsToward g.D.Disk.seen g.D.Disk.tells c.in_err-ask_about.field-0.0 (map g.D.Disk.seen c.loop-at.disks.items) c.ask_about.new.world (map g.D.Disk.seen c.ask_about.new.disks.items) (asks_about c.at-item.result.site tids session mid) session mid) c.as_slice.ensures.value
     (c.in_err-ask_about.ensures.failed session mid (c.loop-at.invariant.stands session before s fits)
     (subst (λ tids. Fits session (asks_about c.at-item.result.site tids session mid)) (sym c.as_slice.ensures.value)
     (subst (λ (at : SiteTids). Fits session (add at mid)) (sym c.at-item.is) (room_for add grows session items i c.at-item.result before c.loop-at-test.true fits)))))))

@@ -36,9 +36,9 @@ returns-in_err-deliver-clause-failed g c =
     let add = rules.deliver session in
     let grows = deliver_grows session in
     let mid = deliver_all (take i items) session before in
-    fails_within g.D.Disk.tells c.deliver.new.world (map g.D.Disk.seen c.deliver.new.disks.items) session c.in_err-deliver.field-0.0 (deliver_all items session before) (add (get_or items i none) mid) mid before
+    fails_within g.D.Disk.seen g.D.Disk.tells c.deliver.new.world (map g.D.Disk.seen c.deliver.new.disks.items) session c.in_err-deliver.field-0.0 (deliver_all items session before) (add (get_or items i none) mid) mid before
     (next_begins add grows items i none before c.loop-place-test.true) (each_extends add grows (take i items) before)
-    (c.in_err-deliver.ensures.failed session mid (c.loop-place.invariant.stands session before s fits) (room_for add grows session items i none before c.loop-place-test.true fits)))
+    _ _ c.loop-place.invariant.calm (c.in_err-deliver.ensures.failed session mid (c.loop-place.invariant.stands session before s fits) (room_for add grows session items i none before c.loop-place-test.true fits)))
 
 pub returns-in_err-deliver-clause-cause : goal.returns-in_err-deliver-clause-cause
 returns-in_err-deliver-clause-cause g c =

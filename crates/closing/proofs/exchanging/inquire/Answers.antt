@@ -1,4 +1,4 @@
-use Rattle.std.proofs.Common.{◌∷◌, List, map, ◌∙◌}
+use Rattle.std.proofs.Common.{◌∷◌, List, map, refl, ◌∙◌}
 use Rattle.std.proofs.lemmas.Result.{err_from_is_err_and}
 use Rattle.mdb_base.specs.declared.names.SiteId.{SiteId}
 use Rattle.mdb_base.specs.declared.names.Tid.{Tid}
@@ -44,9 +44,9 @@ pub returns-in_err-apply-clause-failed : goal.returns-in_err-apply-clause-failed
 returns-in_err-apply-clause-failed g c =
     let p = err_from_is_err_and c.from_residual.result c.from_residual.ensures.1 in
     rw (p.1, p.2) (λ session commands s fits.
-    fails_within g.D.Disk.tells c.apply.new.self (map g.D.Disk.seen c.apply.new.disks.items) session c.in_err-apply.field-0.0 (rules.inquire session c.args.site c.args.tid commands) (one c.args.site c.args.tid commands) commands commands
+    fails_within g.D.Disk.seen g.D.Disk.tells c.apply.new.self (map g.D.Disk.seen c.apply.new.disks.items) session c.in_err-apply.field-0.0 (rules.inquire session c.args.site c.args.tid commands) (one c.args.site c.args.tid commands) commands commands
     (first session c.args.site c.args.tid commands) (extends_here commands)
-    (fails_at g.D.Disk.tells c.apply.new.self (map g.D.Disk.seen c.apply.new.disks.items) session c.in_err-apply.field-0.0 (Cmd.Ask c.args.site c.args.tid) commands
+    _ _ refl (fails_at g.D.Disk.seen g.D.Disk.tells c.apply.new.self (map g.D.Disk.seen c.apply.new.disks.items) session c.in_err-apply.field-0.0 (Cmd.Ask c.args.site c.args.tid) commands c.args.world.now c.args.disks.now.items s c.in_err-apply.ensures.cause
     (c.in_err-apply.ensures.failed session commands s (room session c.args.site c.args.tid commands fits))))
 
 pub take_sent-requires-clause-stood : goal.take_sent-requires-clause-stood
@@ -64,9 +64,9 @@ returns-in_err-take_sent-clause-failed g c =
     let p = err_from_is_err_and c.from_residual-in_err-take_sent.result c.from_residual-in_err-take_sent.ensures.1 in
     rw (p.1, p.2) (λ session commands s fits.
     let next = c.in_ok-apply.ensures.applied session commands s (room session c.args.site c.args.tid commands fits) in
-    fails_within g.D.Disk.tells c.take_sent.new.world (map g.D.Disk.seen c.take_sent.new.disks.items) session c.in_err-take_sent.field-0.0 (rules.inquire session c.args.site c.args.tid commands) (taken session (one c.args.site c.args.tid commands)) (one c.args.site c.args.tid commands) commands
+    fails_within g.D.Disk.seen g.D.Disk.tells c.take_sent.new.world (map g.D.Disk.seen c.take_sent.new.disks.items) session c.in_err-take_sent.field-0.0 (rules.inquire session c.args.site c.args.tid commands) (taken session (one c.args.site c.args.tid commands)) (one c.args.site c.args.tid commands) commands
     (second session c.args.site c.args.tid commands) (extends_one (Cmd.Ask c.args.site c.args.tid) commands)
-    (c.in_err-take_sent.ensures.failed session (one c.args.site c.args.tid commands) next (fits_second session c.args.site c.args.tid commands fits)))
+    _ _ c.in_ok-apply.ensures.cause (c.in_err-take_sent.ensures.failed session (one c.args.site c.args.tid commands) next (fits_second session c.args.site c.args.tid commands fits)))
 
 pub returns-in_err-take_sent-clause-cause : goal.returns-in_err-take_sent-clause-cause
 returns-in_err-take_sent-clause-cause g c =
@@ -100,8 +100,8 @@ returns-clause-failed g c =
     let next = c.in_ok-apply.ensures.applied session commands s (room session c.args.site c.args.tid commands fits) in
     let last = c.in_ok-take_sent.ensures.done session (one c.args.site c.args.tid commands) next (fits_second session c.args.site c.args.tid commands fits) in
     let whole = rules.inquire session c.args.site c.args.tid commands in
-    fails_within g.D.Disk.tells c.give_sent.new.world (map g.D.Disk.seen c.give_sent.new.disks.items) session why whole whole (taken session (one c.args.site c.args.tid commands)) commands (extends_here whole) (behind session c.args.site c.args.tid commands)
-    (failed session (taken session (one c.args.site c.args.tid commands)) last fits))
+    fails_within g.D.Disk.seen g.D.Disk.tells c.give_sent.new.world (map g.D.Disk.seen c.give_sent.new.disks.items) session why whole whole (taken session (one c.args.site c.args.tid commands)) commands (extends_here whole) (behind session c.args.site c.args.tid commands)
+    _ _ (c.in_ok-take_sent.ensures.cause ∙ c.in_ok-apply.ensures.cause) (failed session (taken session (one c.args.site c.args.tid commands)) last fits))
     c.give_sent.ensures.failed
 
 pub returns-clause-cause : goal.returns-clause-cause

@@ -1,4 +1,4 @@
-use Rattle.std.proofs.Common.{◌∷◌, [], List, map, sym, ◌∙◌, subst}
+use Rattle.std.proofs.Common.{◌∷◌, [], List, map, refl, sym, ◌∙◌, subst}
 use Rattle.std.proofs.lemmas.Result.{err_from_is_err_and}
 use Rattle.mdb_base.specs.declared.names.Tid.{Tid}
 use Rattle.fed_rules.specs.declared.commands.Command.{Command}
@@ -35,9 +35,9 @@ returns-in_err-apply-clause-failed g c =
     let p = err_from_is_err_and c.from_residual.result c.from_residual.ensures.1 in
     rw (p.1, p.2) (λ session commands s fits.
     let tid = c.args.tid in
-    fails_within g.D.Disk.tells c.apply.new.self (map g.D.Disk.seen c.apply.new.disks.items) session c.in_err-apply.field-0.0 (rules.send_again session tid commands) (one tid commands) commands commands
+    fails_within g.D.Disk.seen g.D.Disk.tells c.apply.new.self (map g.D.Disk.seen c.apply.new.disks.items) session c.in_err-apply.field-0.0 (rules.send_again session tid commands) (one tid commands) commands commands
     (rest session tid commands) (extends_here commands)
-    (fails_at g.D.Disk.tells c.apply.new.self (map g.D.Disk.seen c.apply.new.disks.items) session c.in_err-apply.field-0.0 (Cmd.Again tid) commands
+    _ _ refl (fails_at g.D.Disk.seen g.D.Disk.tells c.apply.new.self (map g.D.Disk.seen c.apply.new.disks.items) session c.in_err-apply.field-0.0 (Cmd.Again tid) commands c.args.world.now c.args.disks.now.items s c.in_err-apply.ensures.cause
     (c.in_err-apply.ensures.failed session commands s (room session tid commands fits))))
 
 pub returns-in_default-clause-failed : goal.returns-in_default-clause-failed
@@ -78,8 +78,8 @@ returns-clause-failed g c =
     let next = c.in_ok-apply.ensures.applied session commands s (room session tid commands fits) in
     let are = c.deref.ensures.value ∙ c.in-Ok.ensures session (one tid commands) (has_lines _ _ _ _ _ next) in
     let whole = rules.send_again session tid commands in
-    fails_within g.D.Disk.tells c.deliver_each.new.world (map g.D.Disk.seen c.deliver_each.new.disks.items) session why whole whole (one tid commands) commands (extends_here whole) (extends_one (Cmd.Again tid) commands)
-    (subst (λ places. FailsToward g.D.Disk.tells why c.deliver_each.new.world (map g.D.Disk.seen c.deliver_each.new.disks.items) (deliver_all places session (one tid commands)) session (one tid commands)) are
+    fails_within g.D.Disk.seen g.D.Disk.tells c.deliver_each.new.world (map g.D.Disk.seen c.deliver_each.new.disks.items) session why whole whole (one tid commands) commands (extends_here whole) (extends_one (Cmd.Again tid) commands)
+    _ _ c.in_ok-apply.ensures.cause (subst (λ places. FailsToward g.D.Disk.seen g.D.Disk.tells why (map g.D.Disk.seen c.apply.new.disks.items) c.deliver_each.new.world (map g.D.Disk.seen c.deliver_each.new.disks.items) (deliver_all places session (one tid commands)) session (one tid commands)) are
     (failed session (one tid commands) next (subst (λ places. Fits session (deliver_all places session (one tid commands))) (sym are) fits))))
     c.deliver_each.ensures.failed
 

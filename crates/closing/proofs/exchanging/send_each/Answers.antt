@@ -36,9 +36,9 @@ returns-in_err-send_again-clause-failed g c =
     let add = rules.send_again session in
     let grows = send_again_grows session in
     let mid = sent_for (take i items) session before in
-    fails_within g.D.Disk.tells c.send_again.new.world (map g.D.Disk.seen c.send_again.new.disks.items) session c.in_err-send_again.field-0.0 (sent_for items session before) (add (get_or items i none) mid) mid before
+    fails_within g.D.Disk.seen g.D.Disk.tells c.send_again.new.world (map g.D.Disk.seen c.send_again.new.disks.items) session c.in_err-send_again.field-0.0 (sent_for items session before) (add (get_or items i none) mid) mid before
     (next_begins add grows items i none before c.loop-tid-test.true) (each_extends add grows (take i items) before)
-    (c.in_err-send_again.ensures.failed session mid (c.loop-tid.invariant.stands session before s fits) (room_for add grows session items i none before c.loop-tid-test.true fits)))
+    _ _ c.loop-tid.invariant.calm (c.in_err-send_again.ensures.failed session mid (c.loop-tid.invariant.stands session before s fits) (room_for add grows session items i none before c.loop-tid-test.true fits)))
 
 pub returns-in_err-send_again-clause-cause : goal.returns-in_err-send_again-clause-cause
 returns-in_err-send_again-clause-cause g c =
