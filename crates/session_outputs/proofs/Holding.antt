@@ -1,5 +1,5 @@
 -- What is on the nine disks of a world: behind some commands, where it is at rest, and where a call of a disk failed.
-use Rattle.std.proofs.Common.{◌≡◌, ℕ, zero, suc, ◌<◌, Bool, true, false, IsTrue, Option, Some, None, List, [], ◌∷◌, length, map, slice_get, inl, inr, refl, sym, ◌∙◌, ap, subst, arith}
+use Rattle.std.proofs.Common.{◌≡◌, ℕ, zero, suc, ◌<◌, Bool, true, false, IsTrue, Option, Some, None, List, [], ◌∷◌, ◌++◌, length, map, slice_get, inl, inr, refl, sym, ◌∙◌, ap, subst, arith}
 use Rattle.std.proofs.lemmas.Bool.{not-false}
 use Rattle.mdb_base.specs.declared.names.SiteId.{SiteId}
 use Rattle.mdb_base.specs.Words.{Each}
@@ -41,6 +41,9 @@ use Rattle.fed_world.specs.Faults.{RisesAt, faults_of}
 use Rattle.fed_world.specs.FreshWorlds.{AreDisks, CoordinatorBroke, IsBroken, SiteBroke, Stands}
 use Rattle.fed_world.specs.Worlds.{DbmsStands, ManagerStands, StandsBut}
 use Rattle.fed_world.specs.SettingUp.{EmptyBut, IsSetUp, StopsForDisk, StopsForMemory}
+use Rattle.closing.specs.Between.{WereCalm}
+use Rattle.closing.specs.FreshTowards.{BreaksAt}
+use Rattle.closing.proofs.Towards.{calm_since}
 use Rattle.session_outputs.specs.Breaks.{BreaksAtNext, BreaksSetUp, CoordinatorStops, SiteStops}
 use Rattle.left_disks.specs.Holding.{CoordHolds, HoldAll, HoldOthers, HoldsAt, SiteHolds}
 use Rattle.session_outputs.specs.Disks.{AreSetUp, HoldFrames, NothingBut, frames_at, site_frames}
@@ -146,6 +149,23 @@ site_stops S K scenario story home programs command (Declines answer) number hel
 site_stops S K scenario story home programs command (Submits event) number held n declared e f =
     record { home = home; declared = declared; number_is = n; event = event; happens = e; stop = (f.0, held event f.0 f.1, f.2) }
 
+-- the disks as they were behind the commands before the one at which a call failed
+pub record WereBefore {D : Type 0} (see : D → Seen) (number : ℕ) (old new : List Seen) (scenario : Scenario) (story : Story) : Type 0 where
+  pub before : List Seen
+  pub were : WereCalm see old before
+  pub held : HoldAll before scenario story
+  pub rose : RisesAt number before new
+
+-- the world stood for these commands with them
+pub were_before : {D : Type 0} (see : D → Seen) → ((one : D) → length (see one).image.bytes ≡ (see one).size) → (number : ℕ) (tells : Bool) (world : World) (old mid disks : List Seen) (scenario : Scenario) (whole commands : List Command)
+    → faults_of mid ≡ faults_of old → (b : BreaksAt see number tells mid world disks whole scenario commands) → WereBefore see number old disks scenario (story_of scenario (b.done ++ commands))
+were_before see sized number tells world old mid disks scenario whole commands same b = record {
+  before = b.before;
+  were = calm_since see old mid b.before same b.were;
+  held = stands_hold_all tells b.was b.before scenario (b.done ++ commands) (subst AreSized b.were.are (all_sized see sized b.were.disks)) b.stood;
+  rose = b.rose;
+}
+
 -- the disk of a number is there
 pub there_at : (disks : List Seen) (number : ℕ) → number < length disks → (seen : Seen) × (slice_get disks number ≡ Some seen)
 there_at [] number lt = absurd (omega arith)
@@ -153,9 +173,10 @@ there_at (seen ∷ disks) zero lt = (seen, refl)
 there_at (seen ∷ disks) (suc number) lt = there_at disks number (omega arith)
 
 -- the coordinator's
-coord_breaks : (tells : Bool) (world : World) (old disks : List Seen) (command : Command) (scenario : Scenario) (commands : List Command) → AreSized disks → AreDisks disks scenario → RisesAt 0 old disks
-    → CoordinatorBroke tells world disks command scenario (story_of scenario commands) → BreaksAtNext 0 old disks command scenario (story_of scenario commands)
-coord_breaks tells world old disks command scenario commands sized are rose b = by_disk (there_at disks 0 (omega (arith, are.nine)))
+coord_breaks : {D : Type 0} (see : D → Seen) (tells : Bool) (world : World) (old disks : List Seen) (command : Command) (scenario : Scenario) (commands : List Command) → AreSized disks → AreDisks disks scenario
+    → WereBefore see 0 old disks scenario (story_of scenario commands)
+    → CoordinatorBroke tells world disks command scenario (story_of scenario commands) → BreaksAtNext see 0 old disks command scenario (story_of scenario commands)
+coord_breaks see tells world old disks command scenario commands sized are w b = by_disk (there_at disks 0 (omega (arith, are.nine)))
   where
     story : Story
     story = story_of scenario commands
@@ -175,9 +196,12 @@ coord_breaks tells world old disks command scenario commands sized are rose b = 
             site_holds tells disks held.dbms scenario home (past_of home.site story) seen (site_not_found scenario commands home (home-again scenario (record { 0 = suc n }) home e)) held.holds
             (subst (λ k. slice_get disks k ≡ Some seen) (sym (numbered scenario (suc n) home e)) at)
 
-    by_disk : (seen : Seen) × (slice_get disks 0 ≡ Some seen) → BreaksAtNext 0 old disks command scenario story
+    by_disk : (seen : Seen) × (slice_get disks 0 ≡ Some seen) → BreaksAtNext see 0 old disks command scenario story
     by_disk (seen, at) = record {
-      rose = rose;
+      before = w.before;
+      were = w.were;
+      held = w.held;
+      rose = w.rose;
       disk = seen;
       own = at;
       stop = coord_stops (ManagerStands tells disks world.cores.coordinator) (CoordHolds seen.image) scenario story command b.asked
@@ -188,9 +212,10 @@ coord_breaks tells world old disks command scenario commands sized are rose b = 
     }
 
 -- a site's
-site_breaks : (n : ℕ) (tells : Bool) (world : World) (old disks : List Seen) (command : Command) (scenario : Scenario) (commands : List Command) → AreSized disks → AreDisks disks scenario → RisesAt (suc n) old disks
-    → SiteBroke (suc n) tells world disks command scenario (story_of scenario commands) → BreaksAtNext (suc n) old disks command scenario (story_of scenario commands)
-site_breaks n tells world old disks command scenario commands sized are rose b = by_asked b.asked b.happens b.broken
+site_breaks : {D : Type 0} (see : D → Seen) (n : ℕ) (tells : Bool) (world : World) (old disks : List Seen) (command : Command) (scenario : Scenario) (commands : List Command) → AreSized disks → AreDisks disks scenario
+    → WereBefore see (suc n) old disks scenario (story_of scenario commands)
+    → SiteBroke (suc n) tells world disks command scenario (story_of scenario commands) → BreaksAtNext see (suc n) old disks command scenario (story_of scenario commands)
+site_breaks see n tells world old disks command scenario commands sized are w b = by_asked b.asked b.happens b.broken
   where
     story : Story
     story = story_of scenario commands
@@ -209,12 +234,15 @@ site_breaks n tells world old disks command scenario commands sized are rose b =
             (subst (λ m. slice_get disks m ≡ Some seen) (sym own) at)
 
     by_asked : (asked : Request SiteEvent) → happens scenario story command ≡ requested b.home story asked
-        → Dbms.Fails (DbmsStands tells disks b.dbms) Step_err.Disk b.home (own_programs b.home.site scenario.transactions) (past_of b.home.site story) asked → BreaksAtNext (suc n) old disks command scenario story
+        → Dbms.Fails (DbmsStands tells disks b.dbms) Step_err.Disk b.home (own_programs b.home.site scenario.transactions) (past_of b.home.site story) asked → BreaksAtNext see (suc n) old disks command scenario story
     by_asked (Declines answer) e f = absurd f
     by_asked (Submits event) e f =
         let d = f.1 in
         record {
-          rose = rose;
+          before = w.before;
+          were = w.were;
+          held = w.held;
+          rose = w.rose;
           disk = d.disk;
           own = subst (λ k. slice_get disks k ≡ Some d.disk) (sym b.number_is) d.own;
           stop = site_stops (DbmsStands tells disks b.dbms) (SiteHolds d.disk.image) scenario story b.home (own_programs b.home.site scenario.transactions) command (Submits event) (suc n)
@@ -223,10 +251,10 @@ site_breaks n tells world old disks command scenario commands sized are rose b =
           others = others;
         }
 
-pub world_breaks : (number : ℕ) (tells : Bool) (world : World) (old disks : List Seen) (command : Command) (scenario : Scenario) (commands : List Command) → AreSized disks → RisesAt number old disks
-    → IsBroken number tells world disks command scenario commands → BreaksAtNext number old disks command scenario (story_of scenario commands)
-world_breaks zero tells world old disks command scenario commands sized rose b = coord_breaks tells world old disks command scenario commands sized b.others rose b.actor
-world_breaks (suc n) tells world old disks command scenario commands sized rose b = site_breaks n tells world old disks command scenario commands sized b.others rose b.actor
+pub world_breaks : {D : Type 0} (see : D → Seen) (number : ℕ) (tells : Bool) (world : World) (old disks : List Seen) (command : Command) (scenario : Scenario) (commands : List Command) → AreSized disks
+    → WereBefore see number old disks scenario (story_of scenario commands) → IsBroken number tells world disks command scenario commands → BreaksAtNext see number old disks command scenario (story_of scenario commands)
+world_breaks see zero tells world old disks command scenario commands sized w b = coord_breaks see tells world old disks command scenario commands sized b.others w b.actor
+world_breaks see (suc n) tells world old disks command scenario commands sized w b = site_breaks see n tells world old disks command scenario commands sized b.others w b.actor
 
 -- ---- while the sites are set up
 

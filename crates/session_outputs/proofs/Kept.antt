@@ -1,5 +1,5 @@
 -- Which records are on the nine disks of a world whose session goes on: those that its actors keep, and behind a failed call what some stop leaves.
-use Rattle.std.proofs.Common.{◌≡◌, ℕ, zero, suc, Bool, false, not, IsTrue, Option, Some, None, List, length, reverse, slice_get, refl, sym, ◌∙◌, subst, arith}
+use Rattle.std.proofs.Common.{◌≡◌, ℕ, zero, suc, Bool, not, IsTrue, Option, Some, None, List, length, reverse, slice_get, refl, sym, ◌∙◌, subst, arith}
 use Rattle.std.proofs.lemmas.Bool.{not-false}
 use Rattle.std.specs.List.{AllByRecursion}
 use Rattle.rules_laws.proofs.Declared.{home-again}

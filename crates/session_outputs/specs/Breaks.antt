@@ -19,7 +19,8 @@ use Rattle.site_core.specs.Stands.{StopAt, stopped_past}
 use Rattle.site_core.specs.Store.{SomeStop}
 use Rattle.fed_world.specs.Asks.{terms_of}
 use Rattle.fed_world.specs.Faults.{RisesAt}
-use Rattle.left_disks.specs.Holding.{CoordHolds, HoldOthers, SiteHolds}
+use Rattle.closing.specs.Between.{WereCalm}
+use Rattle.left_disks.specs.Holding.{CoordHolds, HoldAll, HoldOthers, SiteHolds}
 use Rattle.session_outputs.specs.Disks.{AreSetUp, NothingBut}
 
 -- the disk of the coordinator holds, as this fact says, what a stop before the event leaves
@@ -56,10 +57,14 @@ abbrev pub ActorStops : (CoordPast → Type 0) → (Home → SitePast → Type 0
 ActorStops M K zero command scenario story = CoordinatorStops M command scenario story
 ActorStops M K (suc n) command scenario story = SiteStops (suc n) K command scenario story
 
--- behind these commands a call of this disk failed within the event of the next one: its count of faults rose and no other, it holds what some stop
--- within that event leaves, and each other disk what the rules say
-pub record BreaksAtNext (number : ℕ) (old new : List Seen) (command : Command) (scenario : Scenario) (story : Story) : Type 0 where
-  pub rose : RisesAt number old new
+-- behind these commands a call of this disk failed within the event of the next one. Before that the disks held what the rules say behind these commands,
+-- and no count of faults had risen; from then on the count of this disk rose and no other. It holds what some stop within that event leaves, and each
+-- other disk what the rules say
+pub record BreaksAtNext {D : Type 0} (seen : D → Seen) (number : ℕ) (old new : List Seen) (command : Command) (scenario : Scenario) (story : Story) : Type 0 where
+  pub before : List Seen
+  pub were : WereCalm seen old before
+  pub held : HoldAll before scenario story
+  pub rose : RisesAt number before new
   pub disk : Seen
   pub own : slice_get new number ≡ Some disk
   pub stop : ActorStops (CoordHolds disk.image) (SiteHolds disk.image) number command scenario story

@@ -7,7 +7,7 @@ use Rattle.fed_rules.specs.Story.{story_of}
 use Rattle.closing_laws.specs.Finished.{AllFinished}
 use Rattle.journal_disk.specs.Disk.{Seen}
 use Rattle.fed_world.specs.declared.world.World.{World}
-use Rattle.fed_world.specs.Faults.{RisesAt, faults_of}
+use Rattle.fed_world.specs.Faults.{faults_of}
 use Rattle.fed_world.specs.FreshWorlds.{Stands}
 use Rattle.closing.specs.FreshTowards.{BreaksAt}
 use Rattle.federation_run.specs.Running.{HasBroken, HasNotBegun, most_merged}
@@ -27,16 +27,16 @@ pub record IsEnded (tells : Bool) (old new : List Seen) (scenario : Scenario) (w
   pub finished : AllFinished scenario (story_of scenario (run_commands scenario (host_commands merged)))
   pub calm : faults_of new ≡ faults_of old
 
--- a call of this disk failed behind the hosts, on the way to the last of all commands
-pub record BreaksOff (tells : Bool) (number : ℕ) (old new : List Seen) (scenario : Scenario) (world : World) : Type 0 where
+-- a call of this disk failed behind the hosts, on the way to the last of all commands: from the disks as they were behind the commands before, on which no
+-- count of faults had risen since the hosts began, its count rose and no other
+pub record BreaksOff {D : Type 0} (seen : D → Seen) (tells : Bool) (number : ℕ) (old new : List Seen) (scenario : Scenario) (world : World) : Type 0 where
   pub merged : List Stamped
   pub hosts : AreOfHosts tells (faults_of old) scenario merged
-  pub breaks : BreaksAt number tells world new (run_commands scenario (host_commands merged)) scenario (host_commands merged)
-  pub rose : RisesAt number old new
+  pub breaks : BreaksAt seen number tells old world new (run_commands scenario (host_commands merged)) scenario (host_commands merged)
 
 -- how a run ended
-abbrev pub ComesToEnd : Bool → List Seen → List Seen → Scenario → Ended → Type 0
-ComesToEnd tells old new scenario (Is.Done world) = IsEnded tells old new scenario world
-ComesToEnd tells old new scenario (Is.Stopped number lines) =
+abbrev pub ComesToEnd : {D : Type 0} → (D → Seen) → Bool → List Seen → List Seen → Scenario → Ended → Type 0
+ComesToEnd seen tells old new scenario (Is.Done world) = IsEnded tells old new scenario world
+ComesToEnd seen tells old new scenario (Is.Stopped number lines) =
     HasNotBegun tells old new scenario number lines ⊎ HasBroken tells (faults_of old) new scenario number lines
-ComesToEnd tells old new scenario (Is.Broken number world) = BreaksOff tells number old new scenario world
+ComesToEnd seen tells old new scenario (Is.Broken number world) = BreaksOff seen tells number old new scenario world

@@ -44,19 +44,19 @@ pub record MakesWhole (tells : Bool) (output : List ℕ) (old new : List Seen) (
   pub fixed : output ≡ made_line making.sites making.transactions
 
 -- a call of a disk failed, as in a run of the scenario: the lines that were made before are right, and the output is which disk, without these lines
-pub record MakesBroken (tells : Bool) (output : List ℕ) (old new : List Seen) (scenario : Scenario) : Type 0 where
+pub record MakesBroken {D : Type 0} (seen : D → Seen) (tells : Bool) (output : List ℕ) (old new : List Seen) (scenario : Scenario) : Type 0 where
   pub number : ℕ
   pub done : List Command
   pub lines : List Line
   pub lines_are : AreLines lines scenario done
   pub output_is : output ≡ disk_failed_text number
-  pub breaks : Breaks tells number old new scenario lines done
+  pub breaks : Breaks seen tells number old new scenario lines done
 
--- what `make` says of its output, with disks that tell their bytes or don't
-abbrev pub making : Bool → Account Making
-making tells =
+-- what `make` says of its output, with disks of which this is seen, and that tell their bytes or don't
+abbrev pub making : {D : Type 0} → (D → Seen) → Bool → Account Making
+making seen tells =
     record {
       whole = MakesWhole tells;
-      broken = λ output old new asked. MakesBroken tells output old new (made_scenario asked);
+      broken = λ output old new asked. MakesBroken seen tells output old new (made_scenario asked);
       short = λ old new asked. MayStopShort old new (made_scenario asked);
     }

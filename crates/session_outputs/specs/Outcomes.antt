@@ -28,10 +28,10 @@ pub record IsDone (lines : List Line) (disks : List Seen) (scenario : Scenario) 
   pub kept : HoldFrames disks scenario (story_of scenario commands)
 
 -- a call of this disk failed within the event of the command behind these first ones of all commands
-pub record BreaksBehind (number : ℕ) (old new : List Seen) (scenario : Scenario) (whole done : List Command) : Type 0 where
+pub record BreaksBehind {D : Type 0} (seen : D → Seen) (number : ℕ) (old new : List Seen) (scenario : Scenario) (whole done : List Command) : Type 0 where
   pub command : Command
   pub front : IsFront (command ∷ done) whole
-  pub breaks : BreaksAtNext number old new command scenario (story_of scenario done)
+  pub breaks : BreaksAtNext seen number old new command scenario (story_of scenario done)
 
 -- memory was wanting while the sites were set up: the first ones are, nothing is on any other disk, and no disk failed
 pub record StartsShort (old new : List Seen) (scenario : Scenario) : Type 0 where

@@ -22,31 +22,31 @@ pub record PlaysWhole (output : List ℕ) (old new : List Seen) (session : Sessi
   pub output_is : output ≡ printed lines session.scenario (story session)
 
 -- a call of this disk failed within the event of the command behind these, or no command was carried out and it failed while its site was set up
-abbrev pub Breaks : ℕ → List Seen → List Seen → Session → List Command → Type 0
-Breaks number old new session done =
-    BreaksBehind number old new session.scenario (commands_of session) done ⊎ ((done ≡ []) × BreaksSetUp number old new session.scenario)
+abbrev pub Breaks : {D : Type 0} → (D → Seen) → ℕ → List Seen → List Seen → Session → List Command → Type 0
+Breaks seen number old new session done =
+    BreaksBehind seen number old new session.scenario (commands_of session) done ⊎ ((done ≡ []) × BreaksSetUp number old new session.scenario)
 
 -- a call of a disk failed: the output is the lines of the commands before, which are right, and behind them which disk
-pub record PlaysBroken (output : List ℕ) (old new : List Seen) (session : Session) : Type 0 where
+pub record PlaysBroken {D : Type 0} (seen : D → Seen) (output : List ℕ) (old new : List Seen) (session : Session) : Type 0 where
   pub number : ℕ
   pub done : List Command
   pub lines : List Line
   pub lines_are : AreLines lines session.scenario done
   pub unrefused : AreUnrefused session.scenario lines
   pub output_is : output ≡ lines_bytes lines ++ disk_failed_text number
-  pub breaks : Breaks number old new session done
+  pub breaks : Breaks seen number old new session done
 
 -- memory was wanting for the text of the lines made until a call of a disk failed
-pub record BreaksShort (old new : List Seen) (session : Session) : Type 0 where
+pub record BreaksShort {D : Type 0} (seen : D → Seen) (old new : List Seen) (session : Session) : Type 0 where
   pub number : ℕ
   pub done : List Command
-  pub breaks : Breaks number old new session done
+  pub breaks : Breaks seen number old new session done
 
 -- memory was wanting in a session that was begun
-abbrev pub IsShort : List Seen → List Seen → Session → Type 0
-IsShort old new session =
-    StartsShort old new session.scenario ⊎ (StopsShort old new session.scenario (commands_of session) ⊎ BreaksShort old new session)
+abbrev pub IsShort : {D : Type 0} → (D → Seen) → List Seen → List Seen → Session → Type 0
+IsShort seen old new session =
+    StartsShort old new session.scenario ⊎ (StopsShort old new session.scenario (commands_of session) ⊎ BreaksShort seen old new session)
 
--- what `replay` says of its output
-abbrev pub replaying : Account Session
-replaying = record { whole = PlaysWhole; broken = PlaysBroken; short = IsShort }
+-- what `replay` says of its output, with disks of which this is seen
+abbrev pub replaying : {D : Type 0} → (D → Seen) → Account Session
+replaying seen = record { whole = PlaysWhole; broken = PlaysBroken seen; short = IsShort seen }

@@ -51,34 +51,34 @@ pub record RunsWhole (tells : Bool) (output : List ℕ) (old new : List Seen) (s
   pub again : ReplaysAlike output lines scenario (story_of scenario (run_commands scenario (host_commands merged)))
 
 -- a call of this disk failed within the event of the command behind these, which closes the session or finishes a transaction alone
-pub record BreaksAfterHosts (tells : Bool) (number : ℕ) (old new : List Seen) (scenario : Scenario) (done : List Command) : Type 0 where
+pub record BreaksAfterHosts {D : Type 0} (seen : D → Seen) (tells : Bool) (number : ℕ) (old new : List Seen) (scenario : Scenario) (done : List Command) : Type 0 where
   pub merged : List Stamped
   pub hosts : AreOfHosts tells (faults_of old) scenario merged
   pub more : List Command
   pub done_is : done ≡ more ++ host_commands merged
-  pub breaks : BreaksBehind number old new scenario (run_commands scenario (host_commands merged)) done
+  pub breaks : BreaksBehind seen number old new scenario (run_commands scenario (host_commands merged)) done
 
 -- it did so, or it failed while its site was set up, or while the hosts ran
-abbrev pub Breaks : Bool → ℕ → List Seen → List Seen → Scenario → List Line → List Command → Type 0
-Breaks tells number old new scenario lines done =
-    BreaksAfterHosts tells number old new scenario done
+abbrev pub Breaks : {D : Type 0} → (D → Seen) → Bool → ℕ → List Seen → List Seen → Scenario → List Line → List Command → Type 0
+Breaks seen tells number old new scenario lines done =
+    BreaksAfterHosts seen tells number old new scenario done
     ⊎ (((done ≡ []) × BreaksSetUp number old new scenario)
     ⊎ HasBroken tells (faults_of old) new scenario number lines)
 
 -- a call of a disk failed: the output is the lines that were made before, which are right, and behind them which disk
-pub record RunsBroken (tells : Bool) (output : List ℕ) (old new : List Seen) (scenario : Scenario) : Type 0 where
+pub record RunsBroken {D : Type 0} (seen : D → Seen) (tells : Bool) (output : List ℕ) (old new : List Seen) (scenario : Scenario) : Type 0 where
   pub number : ℕ
   pub done : List Command
   pub lines : List Line
   pub lines_are : AreLines lines scenario done
   pub unrefused : AreUnrefused scenario lines
   pub output_is : output ≡ lines_bytes lines ++ disk_failed_text number
-  pub breaks : Breaks tells number old new scenario lines done
+  pub breaks : Breaks seen tells number old new scenario lines done
 
 -- where memory was wanting nothing is said of the disks
 abbrev pub MayStopShort : List Seen → List Seen → Scenario → Type 0
 MayStopShort old new scenario = Unit {0}
 
--- what `run` says of its output, with disks that tell their bytes or don't
-abbrev pub running : Bool → Account Scenario
-running tells = record { whole = RunsWhole tells; broken = RunsBroken tells; short = MayStopShort }
+-- what `run` says of its output, with disks of which this is seen, and that tell their bytes or don't
+abbrev pub running : {D : Type 0} → (D → Seen) → Bool → Account Scenario
+running seen tells = record { whole = RunsWhole tells; broken = RunsBroken seen tells; short = MayStopShort }

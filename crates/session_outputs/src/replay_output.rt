@@ -36,7 +36,7 @@ fn carry_out<D: Disk>(
     requires stood { SomeStory (Stands D.tells world.old (map D.seen disks.old.items)) (FitWith commands.now) }
     ensures done { OnOk result (Reaches D.tells world.old (map D.seen disks.old.items) world.new (map D.seen disks.new.items) (FitWith commands.now)
         (λ scenario before. with_commands commands.now before)) }
-    ensures failed { IfErr result (λ why. FallsShort D.tells world.old (map D.seen disks.old.items) why world.new (map D.seen disks.new.items) (FitWith commands.now)
+    ensures failed { IfErr result (λ why. FallsShort D.seen D.tells world.old (map D.seen disks.old.items) why world.new (map D.seen disks.new.items) (FitWith commands.now)
         (λ scenario before. with_commands commands.now before)) }
     ensures cause { CountsTell result (map D.seen disks.old.items) (map D.seen disks.new.items) }
 {
@@ -59,7 +59,7 @@ fn play<D: Disk>(
     requires told { IsTrue D.tells }
     requires stood { SomeStory (Stands D.tells world.old (map D.seen disks.old.items)) (CanPlay commands.now) }
     ensures played { OnOk result (Reaches D.tells world.old (map D.seen disks.old.items) world.new (map D.seen disks.new.items) (CanPlay commands.now) (closed_with commands.now)) }
-    ensures failed { IfErr result (λ why. FallsShort D.tells world.old (map D.seen disks.old.items) why world.new (map D.seen disks.new.items) (CanPlay commands.now) (closed_with commands.now)) }
+    ensures failed { IfErr result (λ why. FallsShort D.seen D.tells world.old (map D.seen disks.old.items) why world.new (map D.seen disks.new.items) (CanPlay commands.now) (closed_with commands.now)) }
     ensures cause { CountsTell result (map D.seen disks.old.items) (map D.seen disks.new.items) }
 {
     carry_out(alloc, world, commands, disks)?;
@@ -85,7 +85,7 @@ pub fn output_of<D: Disk>(
     requires commands { AreCommands session.scenario.sites session.commands }
     requires nine { length disks.old.items ≡ 9 }
     requires unused { is_used (sizes_of (map D.seen disks.old.items)) ≡ false }
-    ensures output { IsOutput replaying result (map D.seen disks.old.items) (map D.seen disks.new.items) session }
+    ensures output { IsOutput (replaying D.seen) result (map D.seen disks.old.items) (map D.seen disks.new.items) session }
     ensures nine { length disks.new.items ≡ 9 }
 {
     right_lines_fit();

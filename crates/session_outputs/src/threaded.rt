@@ -37,7 +37,7 @@ fn end<D: Disk>(alloc: Global, world: &mut World, disks: &mut Vec<D>) -> Result<
     requires told { IsTrue D.tells }
     requires stood { SomeStory (Stands D.tells world.old (map D.seen disks.old.items)) CanEnd }
     ensures ended { OnOk result (Reaches D.tells world.old (map D.seen disks.old.items) world.new (map D.seen disks.new.items) CanEnd run_commands) }
-    ensures failed { IfErr result (λ why. FallsShort D.tells world.old (map D.seen disks.old.items) why world.new (map D.seen disks.new.items) CanEnd run_commands) }
+    ensures failed { IfErr result (λ why. FallsShort D.seen D.tells world.old (map D.seen disks.old.items) why world.new (map D.seen disks.new.items) CanEnd run_commands) }
     ensures cause { CountsTell result (map D.seen disks.old.items) (map D.seen disks.new.items) }
 {
     closing_is_bounded();
@@ -59,7 +59,7 @@ pub(crate) fn run_to_end<R: Threads + Wait + Sync, D: Disk + Send, G: Gate + Syn
     requires told { IsTrue D.tells }
     requires nine { length disks.old.items ≡ 9 }
     requires empty { AreEmpty (map D.seen disks.old.items) }
-    ensures ended { IfOk result (ComesToEnd D.tells (map D.seen disks.old.items) (map D.seen disks.new.items) scenario) }
+    ensures ended { IfOk result (ComesToEnd D.seen D.tells (map D.seen disks.old.items) (map D.seen disks.new.items) scenario) }
     ensures nine { length disks.new.items ≡ 9 }
 {
     closed_sessions_rest();

@@ -52,9 +52,10 @@ returns-in_err-apply-clause-failed g c =
     let i = c.loop-command.command-index in
     let mid = with_commands (take i items) before in
     let failed = c.in_err-apply.ensures.failed (fresh scenario) mid (c.loop-command.invariant.stands scenario before s fits) (room_one (fresh scenario) (get_or items i none) _ (room_for push extends_one (fresh scenario) items i none before c.loop-command-test.true fits)) in
-    fails_within g.D.Disk.tells c.apply.new.self (map g.D.Disk.seen c.apply.new.disks.items) (fresh scenario) c.in_err-apply.field-0.0 (with_commands items before) (get_or items i none ∷ mid) mid before
+    fails_within g.D.Disk.seen g.D.Disk.tells c.apply.new.self (map g.D.Disk.seen c.apply.new.disks.items) (fresh scenario) c.in_err-apply.field-0.0 (with_commands items before) (get_or items i none ∷ mid) mid before
     (next_begins push extends_one items i none before c.loop-command-test.true) (each_extends push extends_one (take i items) before)
-    (fails_at g.D.Disk.tells c.apply.new.self (map g.D.Disk.seen c.apply.new.disks.items) (fresh scenario) c.in_err-apply.field-0.0 (get_or items i none) mid failed))
+    _ _ c.loop-command.invariant.calm (fails_at g.D.Disk.seen g.D.Disk.tells c.apply.new.self (map g.D.Disk.seen c.apply.new.disks.items) (fresh scenario) c.in_err-apply.field-0.0 (get_or items i none) mid c.loop-command.world c.loop-command.disks.items
+    (c.loop-command.invariant.stands scenario before s fits) c.in_err-apply.ensures.cause failed))
 
 pub returns-in_err-apply-clause-cause : goal.returns-in_err-apply-clause-cause
 returns-in_err-apply-clause-cause g c =

@@ -34,7 +34,7 @@ returns-in-Err-Disk-clause-output g c =
     let breaks = starts_broken c.in-Err-Disk.number disk.tells old new session.scenario sized
     (subst (λ (why : WorldErr). FailedAs why old new) c.in-Err-Disk.field-0-is c.in-Err-Disk.ensures.cause)
     (subst (λ (why : WorldErr). FailsToStart disk.tells why new session.scenario) c.in-Err-Disk.field-0-is c.in-Err-Disk.ensures.failed) in
-    broken_output c.broken.result old new session c.in-Err-Disk.number [] [] (no_lines session.scenario) (λ conservative. tt) (inr (refl, breaks)) c.broken.ensures
+    broken_output disk.seen c.broken.result old new session c.in-Err-Disk.number [] [] (no_lines session.scenario) (λ conservative. tt) (inr (refl, breaks)) c.broken.ensures
 
 pub returns-in-Err-Memory-clause-output : goal.returns-in-Err-Memory-clause-output
 returns-in-Err-Memory-clause-output g c =
@@ -87,7 +87,7 @@ returns-in-Ok-play-clause-output g c =
     let can = can_play session c.as_slice.result.now c.as_slice.ensures c.requires.commands in
     let stood = subst (λ (cs : List Command). Stands disk.tells c.play.new.world new session.scenario cs) same (c.in-Ok-play.ensures.played session.scenario [] c.in-Ok.ensures.stands can) in
     let right = story_right c.federation_is_serializable.ensures.headline c.commits_are_settled_at_rest.ensures session.scenario whole (commands_of session) (c.closed_sessions_rest.ensures session.scenario (reverse session.commands) whole) in
-    whole_output c.printed.result old new session (c.in-Ok-play.ensures.cause ∙ c.in-Ok.ensures.cause) right
+    whole_output disk.seen c.printed.result old new session (c.in-Ok-play.ensures.cause ∙ c.in-Ok.ensures.cause) right
     (stands_hold_frames disk.tells c.play.new.world new session.scenario (commands_of session) c.requires.told sized right.at_rest stood)
     (stands_hold_all disk.tells c.play.new.world new session.scenario (commands_of session) sized stood)
     (λ lines are. unrefused c.conservative_lines_refuse_none.ensures.all session.scenario whole (commands_of session) lines are)
@@ -101,7 +101,7 @@ broken-requires-in-Err-Disk-play g c =
     let whole : IsScenario session.scenario = c.scenario_is_whole.ensures in
     let same = session_commands session c.as_slice.result.now c.as_slice.ensures in
     let can = can_play session c.as_slice.result.now c.as_slice.ensures c.requires.commands in
-    let b = subst (λ (why : WorldErr). FailsToward disk.tells why c.play.new.world new (closed_with c.as_slice.result.now session.scenario []) session.scenario []) c.in-Err-Disk-play.field-0-is
+    let b = subst (λ (why : WorldErr). FailsToward disk.seen disk.tells why (map disk.seen c.new.new.disks.items) c.play.new.world new (closed_with c.as_slice.result.now session.scenario []) session.scenario []) c.in-Err-Disk-play.field-0-is
     (c.in-Err-Disk-play.ensures.failed session.scenario [] c.in-Ok.ensures.stands can) in
     let front = front_before (commands_of session) b.command (b.done ++ []) (b.left, sym same ∙ b.of_whole) in
     lines_fit c.right_lines_fit.ensures session.scenario (b.done ++ []) c.lines.result.now whole
@@ -117,14 +117,13 @@ returns-in-Err-Disk-play-clause-output g c =
     let sized = all_sized disk.seen (λ one. g.met.D.Disk.told_size one c.requires.told) c.play.new.disks.items in
     let same = session_commands session c.as_slice.result.now c.as_slice.ensures in
     let can = can_play session c.as_slice.result.now c.as_slice.ensures c.requires.commands in
-    let b = subst (λ (why : WorldErr). FailsToward disk.tells why c.play.new.world new (closed_with c.as_slice.result.now session.scenario []) session.scenario []) c.in-Err-Disk-play.field-0-is
+    let b = subst (λ (why : WorldErr). FailsToward disk.seen disk.tells why (map disk.seen c.new.new.disks.items) c.play.new.world new (closed_with c.as_slice.result.now session.scenario []) session.scenario []) c.in-Err-Disk-play.field-0-is
     (c.in-Err-Disk-play.ensures.failed session.scenario [] c.in-Ok.ensures.stands can) in
-    let rose = subst (λ (why : WorldErr). FailedAs why old new) c.in-Err-Disk-play.field-0-is
-    (failed_later c.in-Err-Disk-play.field-0 old (map disk.seen c.new.new.disks.items) new c.in-Ok.ensures.cause c.in-Err-Disk-play.ensures.cause) in
-    broken_output c.broken-in-Err-Disk-play.result old new session c.in-Err-Disk-play.number (b.done ++ []) c.lines.result.now
+    broken_output disk.seen c.broken-in-Err-Disk-play.result old new session c.in-Err-Disk-play.number (b.done ++ []) c.lines.result.now
     (c.lines.ensures.fresh session.scenario (b.done ++ []) b.broken.has)
     (unrefused c.conservative_lines_refuse_none.ensures.all session.scenario c.scenario_is_whole.ensures (b.done ++ []) c.lines.result.now (c.lines.ensures.fresh session.scenario (b.done ++ []) b.broken.has))
-    (play_breaks disk.tells c.play.new.world old new session c.as_slice.result.now same sized c.in-Err-Disk-play.number rose b)
+    (play_breaks disk.tells c.play.new.world old new session c.as_slice.result.now same sized disk.seen (λ one. g.met.D.Disk.told_size one c.requires.told) c.in-Err-Disk-play.number
+    (map disk.seen c.new.new.disks.items) c.in-Ok.ensures.cause b)
     c.broken-in-Err-Disk-play.ensures
 
 pub returns-clause-output : goal.returns-clause-output
@@ -138,8 +137,8 @@ returns-clause-output g c =
     let can = can_play session c.as_slice.result.now c.as_slice.ensures c.requires.commands in
     let calm = subst (λ (why : WorldErr). FailedAs why old new) c.in-Err-Memory-play.field-0-is
     (failed_later c.in-Err-Memory-play.field-0 old (map disk.seen c.new.new.disks.items) new c.in-Ok.ensures.cause c.in-Err-Memory-play.ensures.cause) in
-    short_output disk.tells c.play.new.world old new session c.as_slice.result.now same sized calm
-    (subst (λ (why : WorldErr). FailsToward disk.tells why c.play.new.world new (closed_with c.as_slice.result.now session.scenario []) session.scenario []) c.in-Err-Memory-play.field-0-is
+    short_output disk.tells c.play.new.world old new session c.as_slice.result.now same sized disk.seen calm
+    (subst (λ (why : WorldErr). FailsToward disk.seen disk.tells why (map disk.seen c.new.new.disks.items) c.play.new.world new (closed_with c.as_slice.result.now session.scenario []) session.scenario []) c.in-Err-Memory-play.field-0-is
     (c.in-Err-Memory-play.ensures.failed session.scenario [] c.in-Ok.ensures.stands can))
 
 pub returns-in-Err-Disk-clause-nine : goal.returns-in-Err-Disk-clause-nine
@@ -160,7 +159,7 @@ returns-in-Err-Disk-play-clause-nine g c =
     let session = c.args.session in
     let new = map disk.seen c.play.new.disks.items in
     let can = can_play session c.as_slice.result.now c.as_slice.ensures c.requires.commands in
-    let b = subst (λ (why : WorldErr). FailsToward disk.tells why c.play.new.world new (closed_with c.as_slice.result.now session.scenario []) session.scenario []) c.in-Err-Disk-play.field-0-is
+    let b = subst (λ (why : WorldErr). FailsToward disk.seen disk.tells why (map disk.seen c.new.new.disks.items) c.play.new.world new (closed_with c.as_slice.result.now session.scenario []) session.scenario []) c.in-Err-Disk-play.field-0-is
     (c.in-Err-Disk-play.ensures.failed session.scenario [] c.in-Ok.ensures.stands can) in
     sym (length-map c.play.new.disks.items disk.seen) ∙ b.broken.others.nine
 
@@ -170,6 +169,6 @@ returns-clause-nine g c =
     let session = c.args.session in
     let new = map disk.seen c.play.new.disks.items in
     let can = can_play session c.as_slice.result.now c.as_slice.ensures c.requires.commands in
-    let s = subst (λ (why : WorldErr). FailsToward disk.tells why c.play.new.world new (closed_with c.as_slice.result.now session.scenario []) session.scenario []) c.in-Err-Memory-play.field-0-is
+    let s = subst (λ (why : WorldErr). FailsToward disk.seen disk.tells why (map disk.seen c.new.new.disks.items) c.play.new.world new (closed_with c.as_slice.result.now session.scenario []) session.scenario []) c.in-Err-Memory-play.field-0-is
     (c.in-Err-Memory-play.ensures.failed session.scenario [] c.in-Ok.ensures.stands can) in
     sym (length-map c.play.new.disks.items disk.seen) ∙ nine _ _ _ _ _ s.stood

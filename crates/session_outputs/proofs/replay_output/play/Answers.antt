@@ -1,4 +1,4 @@
-use Rattle.std.proofs.Common.{map}
+use Rattle.std.proofs.Common.{map, refl}
 use Rattle.std.proofs.lemmas.Result.{err_from_is_err_and}
 use Rattle.fed_rules.specs.Sessions.{fresh}
 use Rattle.closing.specs.Steps.{with_commands}
@@ -26,8 +26,8 @@ returns-in_err-carry_out-clause-failed g c =
     let more = c.args.commands.now in
     rw (p.1, p.2) (λ scenario before s can.
     let on = closed_on scenario (with_commands more before) in
-    fails_within g.D.Disk.tells c.carry_out.new.world (map g.D.Disk.seen c.carry_out.new.disks.items) (fresh scenario) c.in_err-carry_out.field-0.0 (closed_with more scenario before) (with_commands more before) before before
-    on (extends_here before) (c.in_err-carry_out.ensures.failed scenario before s (can_fit more scenario before can)))
+    fails_within g.D.Disk.seen g.D.Disk.tells c.carry_out.new.world (map g.D.Disk.seen c.carry_out.new.disks.items) (fresh scenario) c.in_err-carry_out.field-0.0 (closed_with more scenario before) (with_commands more before) before before
+    on (extends_here before) _ _ refl (c.in_err-carry_out.ensures.failed scenario before s (can_fit more scenario before can)))
 
 pub close-requires-clause-stood : goal.close-requires-clause-stood
 close-requires-clause-stood g c =
@@ -56,9 +56,9 @@ returns-clause-failed g c =
     let more = c.args.commands.now in
     on_failure _ _ c.close.result
     (λ why failed scenario before s can.
-    fails_within g.D.Disk.tells c.close.new.world (map g.D.Disk.seen c.close.new.disks.items) (fresh scenario) why (closed_with more scenario before) (closed_with more scenario before) (with_commands more before) before
+    fails_within g.D.Disk.seen g.D.Disk.tells c.close.new.world (map g.D.Disk.seen c.close.new.disks.items) (fresh scenario) why (closed_with more scenario before) (closed_with more scenario before) (with_commands more before) before
     (extends_here (closed_with more scenario before)) (with_extends more before)
-    (failed (fresh scenario) (with_commands more before)
+    _ _ c.in_ok-carry_out.ensures.cause (failed (fresh scenario) (with_commands more before)
     (c.in_ok-carry_out.ensures.done scenario before s (can_fit more scenario before can))
     (fresh_can_close scenario (with_commands more before) can)))
     c.close.ensures.failed

@@ -1,4 +1,4 @@
-use Rattle.std.proofs.Common.{map, subst}
+use Rattle.std.proofs.Common.{map, refl, subst}
 use Rattle.std.proofs.lemmas.Result.{err_from_is_err_and}
 use Rattle.fed_rules.specs.Closing.{closed}
 use Rattle.fed_rules.specs.Plans.{IsScenario}
@@ -21,8 +21,8 @@ pub returns-in_err-close-clause-failed : goal.returns-in_err-close-clause-failed
 returns-in_err-close-clause-failed g c =
     let p = err_from_is_err_and c.from_residual.result c.from_residual.ensures.1 in
     rw (p.1, p.2) (λ scenario before s can.
-    fails_within g.D.Disk.tells c.close.new.world (map g.D.Disk.seen c.close.new.disks.items) (fresh scenario) c.in_err-close.field-0.0 (run_commands scenario before) (closed scenario before) before before
-    (finished_grows scenario (closed scenario before)) (extends_here before) (c.in_err-close.ensures.failed (fresh scenario) before s (can_close scenario before can)))
+    fails_within g.D.Disk.seen g.D.Disk.tells c.close.new.world (map g.D.Disk.seen c.close.new.disks.items) (fresh scenario) c.in_err-close.field-0.0 (run_commands scenario before) (closed scenario before) before before
+    (finished_grows scenario (closed scenario before)) (extends_here before) _ _ refl (c.in_err-close.ensures.failed (fresh scenario) before s (can_close scenario before can)))
 
 pub finish_alone-requires-clause-stood : goal.finish_alone-requires-clause-stood
 finish_alone-requires-clause-stood g c =
@@ -49,9 +49,9 @@ returns-clause-failed g c =
     on_failure _ _ c.finish_alone.result
     (λ why failed scenario before s can.
     let whole = subst IsScenario (c.scenario.ensures (fresh scenario) before (has_lines _ _ _ _ _ s)) c.scenario_is_whole.ensures in
-    fails_within g.D.Disk.tells c.finish_alone.new.world (map g.D.Disk.seen c.finish_alone.new.disks.items) (fresh scenario) why (run_commands scenario before) (run_commands scenario before) (closed scenario before) before
+    fails_within g.D.Disk.seen g.D.Disk.tells c.finish_alone.new.world (map g.D.Disk.seen c.finish_alone.new.disks.items) (fresh scenario) why (run_commands scenario before) (run_commands scenario before) (closed scenario before) before
     (extends_here (run_commands scenario before)) (closed_on scenario before)
-    (failed scenario (closed scenario before) (c.in_ok-close.ensures.done (fresh scenario) before s (can_close scenario before can))
+    _ _ c.in_ok-close.ensures.cause (failed scenario (closed scenario before) (c.in_ok-close.ensures.done (fresh scenario) before s (can_close scenario before can))
     (can_finish c.closing_is_bounded.ensures c.closed_sessions_rest.ensures scenario before whole can)))
     c.finish_alone.ensures.failed
 

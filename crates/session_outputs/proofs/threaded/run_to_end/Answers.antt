@@ -1,11 +1,11 @@
 use Rattle.std.proofs.Common.{map, sym, ◌∙◌, subst}
 use Rattle.std.proofs.lemmas.List.{length-map}
+use Rattle.fed_rules.specs.Sessions.{fresh}
 use Rattle.closing.specs.FreshTowards.{FailsToward}
 use Rattle.federation_run.specs.declared.errors.RunErr.{RunErr}
 use Rattle.federation_run.specs.Running.{EndsBadly}
 use Rattle.fed_world.specs.declared.errors.WorldErr.{WorldErr}
-use Rattle.fed_world.specs.Faults.{FailedAs}
-use Rattle.fed_world.proofs.Faults.{failed_later}
+use Rattle.closing.proofs.Towards.{breaks_since}
 use Rattle.closing.proofs.World.{nine}
 use Rattle.session_outputs.specs.Runs.{host_commands, run_commands}
 use Rattle.session_outputs.proofs.Ending.{has_ended, of_hosts}
@@ -44,9 +44,9 @@ returns-in-Err-Disk-end-clause-ended g c =
     record {
       merged = r.merged;
       hosts = of_hosts disk.tells _ mid scenario _ r;
-      breaks = subst (λ (why : WorldErr). FailsToward disk.tells why c.end.new.world new (run_commands scenario (host_commands r.merged)) scenario (host_commands r.merged)) c.in-Err-Disk-end.field-0-is
-          (c.in-Err-Disk-end.ensures.failed scenario (host_commands r.merged) r.stands r.run.few_lines);
-      rose = subst (λ (why : WorldErr). FailedAs why old new) c.in-Err-Disk-end.field-0-is (failed_later c.in-Err-Disk-end.field-0 old mid new r.calm c.in-Err-Disk-end.ensures.cause);
+      breaks = breaks_since disk.seen disk.tells c.end.new.world new (fresh scenario) c.in-Err-Disk-end.number (run_commands scenario (host_commands r.merged)) (host_commands r.merged) old mid r.calm
+          (subst (λ (why : WorldErr). FailsToward disk.seen disk.tells why mid c.end.new.world new (run_commands scenario (host_commands r.merged)) scenario (host_commands r.merged)) c.in-Err-Disk-end.field-0-is
+          (c.in-Err-Disk-end.ensures.failed scenario (host_commands r.merged) r.stands r.run.few_lines));
     }
 
 pub returns-in-Ok-end-clause-nine : goal.returns-in-Ok-end-clause-nine
@@ -60,7 +60,8 @@ returns-in-Err-Disk-end-clause-nine g c =
     let new = map disk.seen c.end.new.disks.items in
     let scenario = c.args.scenario in
     let r = c.in-Ok.ensures.ran in
-    let b = subst (λ (why : WorldErr). FailsToward disk.tells why c.end.new.world new (run_commands scenario (host_commands r.merged)) scenario (host_commands r.merged)) c.in-Err-Disk-end.field-0-is
+    let mid = map disk.seen c.run_threads.new.disks.items in
+    let b = subst (λ (why : WorldErr). FailsToward disk.seen disk.tells why mid c.end.new.world new (run_commands scenario (host_commands r.merged)) scenario (host_commands r.merged)) c.in-Err-Disk-end.field-0-is
     (c.in-Err-Disk-end.ensures.failed scenario (host_commands r.merged) r.stands r.run.few_lines) in
     sym (length-map c.end.new.disks.items disk.seen) ∙ b.broken.others.nine
 
@@ -70,6 +71,7 @@ returns-in-Err-Memory-end-clause-nine g c =
     let new = map disk.seen c.end.new.disks.items in
     let scenario = c.args.scenario in
     let r = c.in-Ok.ensures.ran in
-    let s = subst (λ (why : WorldErr). FailsToward disk.tells why c.end.new.world new (run_commands scenario (host_commands r.merged)) scenario (host_commands r.merged)) c.in-Err-Memory-end.field-0-is
+    let mid = map disk.seen c.run_threads.new.disks.items in
+    let s = subst (λ (why : WorldErr). FailsToward disk.seen disk.tells why mid c.end.new.world new (run_commands scenario (host_commands r.merged)) scenario (host_commands r.merged)) c.in-Err-Memory-end.field-0-is
     (c.in-Err-Memory-end.ensures.failed scenario (host_commands r.merged) r.stands r.run.few_lines) in
     sym (length-map c.end.new.disks.items disk.seen) ∙ nine _ _ _ _ _ s.stood
