@@ -1,5 +1,5 @@
 -- A session that goes on: what it is, what is printed of it, and what is said of the disks.
-use Rattle.std.proofs.Common.{◌≡◌, ◌++◌, ℕ, Bool, IsTrue, Option, Some, None, List, [], ◌∷◌, Result, Ok, Err, length, length-set, reverse, inl, inr, refl, sym, ap, subst, ◌∙◌}
+use Rattle.std.proofs.Common.{◌≡◌, ◌++◌, ℕ, Bool, IsTrue, Option, Some, List, [], ◌∷◌, Result, Ok, Err, length, length-set, reverse, inl, inr, refl, sym, ap, subst, ◌∙◌}
 use Rattle.std.proofs.lemmas.List.{length-map, reverse-reverse}
 use Rattle.mdb_base.specs.declared.names.Memory.{Memory}
 use Rattle.mdb_base.specs.Words.{Each}
@@ -19,7 +19,7 @@ use Rattle.line_laws.specs.Resumed.{ResumedLinesFit}
 use Rattle.line_laws.specs.Lines.{IsHeard}
 use Rattle.found_disks.specs.declared.errors.ReopenErr.{ReopenErr}
 use Rattle.found_disks.specs.declared.errors.ReopenErr.TheVariants as Err_is
-use Rattle.found_disks.specs.Faults.{RisesAt, faults_of}
+use Rattle.found_disks.specs.Faults.{faults_of}
 use Rattle.found_disks.specs.declared.reading.Journals.{Journals}
 use Rattle.found_disks.specs.Finding.{FindsAs, found_in}
 use Rattle.found_disks.specs.Reading.{FaultsTell, images_of}
@@ -33,7 +33,8 @@ use Rattle.fed_world.specs.Faults.{CountsTell}
 use Rattle.fed_world.specs.Lines.{AreLinesIn}
 use Rattle.fed_world.specs.Reporting.{found_report, report_by, report_for}
 use Rattle.closing.specs.Towards.{BreaksAt, IsShort}
-use Rattle.session_outputs.proofs.Holding.{AreSized}
+use Rattle.closing.proofs.Towards.{calm_since}
+use Rattle.session_outputs.proofs.Holding.{AreSized, all_sized}
 use Rattle.session_outputs.proofs.Kept.{actor_breaks, stands_keeps}
 use Rattle.session_outputs.specs.declared.output.Output.{Output}
 use Rattle.session_outputs.specs.declared.output.Output.TheVariants.{Whole, Broken}
@@ -105,22 +106,22 @@ short_left law disks scenario commands left = (tt, all_go_on law disks scenario 
 
 -- ---- what is answered
 
-pub refused_as : (why : ReopenErr) (old new : List Seen) → FindsAs (Err why) (images_of old) → images_of new ≡ images_of old → FaultsTell {T = Output} (Err why) old new → IsRefusedAs why old new
-refused_as (Err_is.Damaged number at) old new finds same told = (record { finds = finds; images = same }, told)
-refused_as (Err_is.Foreign number) old new finds same told = (record { finds = finds; images = same }, told)
-refused_as (Err_is.Disk number) old new finds same told = (record { finds = finds; images = same }, told)
-refused_as Err_is.Memory old new finds same told = inl (same, told)
+pub refused_as : {D : Type 0} (see : D → Seen) (why : ReopenErr) (old new : List Seen) → FindsAs (Err why) (images_of old) → images_of new ≡ images_of old → FaultsTell {T = Output} (Err why) old new → IsRefusedAs see why old new
+refused_as see (Err_is.Damaged number at) old new finds same told = (record { finds = finds; images = same }, told)
+refused_as see (Err_is.Foreign number) old new finds same told = (record { finds = finds; images = same }, told)
+refused_as see (Err_is.Disk number) old new finds same told = (record { finds = finds; images = same }, told)
+refused_as see Err_is.Memory old new finds same told = inl (same, told)
 
 -- an output was made, or memory was wanting for it
-pub whole_answered : (made : Result Output Memory) (old new : List Seen) → IfWhole made (λ bytes. ResumesWhole bytes old new) → ResumesShort old new → ResumesAs (answered made) old new
-whole_answered (Ok (Whole bytes)) old new p short = p
-whole_answered (Ok (Broken bytes)) old new p short = absurd p
-whole_answered (Err why) old new p short = short
+pub whole_answered : {D : Type 0} (see : D → Seen) (made : Result Output Memory) (old new : List Seen) → IfWhole made (λ bytes. ResumesWhole bytes old new) → ResumesShort see old new → ResumesAs see (answered made) old new
+whole_answered see (Ok (Whole bytes)) old new p short = p
+whole_answered see (Ok (Broken bytes)) old new p short = absurd p
+whole_answered see (Err why) old new p short = short
 
-pub broken_answered : (made : Result Output Memory) (old new : List Seen) → IfBroken made (λ bytes. ResumesBroken bytes old new) → ResumesShort old new → ResumesAs (answered made) old new
-broken_answered (Ok (Whole bytes)) old new p short = absurd p
-broken_answered (Ok (Broken bytes)) old new p short = p
-broken_answered (Err why) old new p short = short
+pub broken_answered : {D : Type 0} (see : D → Seen) (made : Result Output Memory) (old new : List Seen) → IfBroken made (λ bytes. ResumesBroken see bytes old new) → ResumesShort see old new → ResumesAs see (answered made) old new
+broken_answered see (Ok (Whole bytes)) old new p short = absurd p
+broken_answered see (Ok (Broken bytes)) old new p short = p
+broken_answered see (Err why) old new p short = short
 
 pub if_broken : (made : Result Output Memory) (P Q : List ℕ → Type 0) → ((bytes : List ℕ) → P bytes → Q bytes) → IfBroken made P → IfBroken made Q
 if_broken (Ok (Whole bytes)) P Q f p = p
@@ -130,11 +131,26 @@ if_broken (Err why) P Q f p = p
 -- ---- what is on the disks on the way to rest
 
 -- where a world breaks on the way to rest
-pub breaks_behind : (tells : Bool) (world : World) (old disks : List Seen) (found : Found) (number : ℕ) → IsTrue tells → AreSized disks → GoesOn (going_on found) → RisesAt number old disks
-    → (b : BreaksAt number tells world disks (resuming found) (going_on found) []) → (broke : BreaksBehind number found old disks) × (broke.done ≡ b.done ++ [])
-breaks_behind tells world old disks found number told sized goes rose b =
-    let (seen, at, stop, others) = actor_breaks tells world disks told sized (going_on found) goes b.broken.others b.command (story_in (going_on found) (b.done ++ [])) number b.broken.actor in
-    (record { done = b.done ++ []; command = b.command; left = b.left; of_all = b.of_whole; rose = rose; disk = seen; own = at; stop = stop; others = others }, refl)
+pub breaks_behind : {D : Type 0} (see : D → Seen) → ((one : D) → length (see one).image.bytes ≡ (see one).size) → (tells : Bool) (world : World) (old mid disks : List Seen) (found : Found) (number : ℕ) → IsTrue tells → AreSized disks
+    → GoesOn (going_on found) → faults_of mid ≡ faults_of old → (b : BreaksAt see number tells mid world disks (resuming found) (going_on found) []) → (broke : BreaksBehind see number found old disks) × (broke.done ≡ b.done ++ [])
+breaks_behind see each tells world old mid disks found number told sized goes same b =
+    let (seen, at, stop, others) = actor_breaks tells world disks told sized (going_on found) goes b.broken.others b.command (story_in (going_on found) (b.done ++ [])) number b.broken.actor in (
+      record {
+        done = b.done ++ [];
+        command = b.command;
+        left = b.left;
+        of_all = b.of_whole;
+        before = b.before;
+        were = calm_since see old mid b.before same b.were;
+        kept = stands_keeps tells b.was b.before (going_on found) (b.done ++ []) told (subst AreSized b.were.are (all_sized see each b.were.disks)) goes b.stood;
+        rose = b.rose;
+        disk = seen;
+        own = at;
+        stop = stop;
+        others = others;
+      },
+      refl,
+    )
 
 -- where memory is wanting on the way to rest
 pub stands_behind : (tells : Bool) (world : World) (old disks : List Seen) (found : Found) → IsTrue tells → AreSized disks → GoesOn (going_on found) → faults_of disks ≡ faults_of old

@@ -24,6 +24,7 @@ use Rattle.fed_world.specs.Beginnings.{GoesOn}
 use Rattle.fed_world.specs.Lines.{AreLinesIn}
 use Rattle.fed_world.specs.Reporting.{found_report}
 use Rattle.fed_world.specs.Worlds.{Rests}
+use Rattle.closing.specs.Between.{WereCalm}
 use Rattle.session_outputs.specs.Breaks.{ActorStops}
 use Rattle.session_outputs.specs.Kept.{CoordKeeps, KeepAll, KeepOthers, SiteKeeps}
 use Rattle.session_outputs.specs.declared.output.Output.{Output}
@@ -62,14 +63,18 @@ pub record StandsBehind (found : Found) (old new : List Seen) : Type 0 where
   pub kept : KeepAll new (plan_of found) (story_in (going_on found) done)
   pub calm : faults_of new ≡ faults_of old
 
--- a call of this disk failed within the command behind some of these: its count of faults rose and no other. It has the records that some stop within
--- the command's event leaves, and each other disk those that its actor keeps
-pub record BreaksBehind (number : ℕ) (found : Found) (old new : List Seen) : Type 0 where
+-- a call of this disk failed within the command behind some of these. Before that the disks had the records that their actors keep behind these, and no
+-- count of faults had risen; from then on the count of this disk rose and no other. It has the records that some stop within the command's event leaves,
+-- and each other disk those that its actor keeps
+pub record BreaksBehind {D : Type 0} (seen : D → Seen) (number : ℕ) (found : Found) (old new : List Seen) : Type 0 where
   pub done : List Command
   pub command : Command
   pub left : List Command
   pub of_all : resuming found ≡ left ++ command ∷ done
-  pub rose : RisesAt number old new
+  pub before : List Seen
+  pub were : WereCalm seen old before
+  pub kept : KeepAll before (plan_of found) (story_in (going_on found) done)
+  pub rose : RisesAt number before new
   pub disk : Seen
   pub own : slice_get new number ≡ Some disk
   pub stop : ActorStops (CoordKeeps disk.image) (SiteKeeps disk.image) number command (plan_of found) (story_in (going_on found) done)
@@ -88,24 +93,24 @@ pub record ResumesWhole (output : List ℕ) (old new : List Seen) : Type 0 where
   pub calm : faults_of new ≡ faults_of old
 
 -- a call of a disk failed on the way to rest. The output is the lines of the commands before, which are right, and behind them which disk
-pub record ResumesBroken (output : List ℕ) (old new : List Seen) : Type 0 where
+pub record ResumesBroken {D : Type 0} (seen : D → Seen) (output : List ℕ) (old new : List Seen) : Type 0 where
   pub found : Found
   pub is_found : IsFoundOn old found
   pub number : ℕ
-  pub broke : BreaksBehind number found old new
+  pub broke : BreaksBehind seen number found old new
   pub lines : List Line
   pub lines_are : AreLinesIn lines (going_on found) broke.done
   pub output_is : output ≡ lines_bytes lines ++ disk_failed_text number
 
 -- memory was wanting on the way to rest, or for what is to be put behind it
-pub record StopsShort (old new : List Seen) : Type 0 where
+pub record StopsShort {D : Type 0} (seen : D → Seen) (old new : List Seen) : Type 0 where
   pub found : Found
   pub is_found : IsFoundOn old found
-  pub came_to : StandsBehind found old new ⊎ (number : ℕ) × BreaksBehind number found old new
+  pub came_to : StandsBehind found old new ⊎ (number : ℕ) × BreaksBehind seen number found old new
 
 -- or before it: the bytes on the disks stay, and none failed
-abbrev pub ResumesShort : List Seen → List Seen → Type 0
-ResumesShort old new = ((images_of new ≡ images_of old) × (faults_of new ≡ faults_of old)) ⊎ StopsShort old new
+abbrev pub ResumesShort : {D : Type 0} → (D → Seen) → List Seen → List Seen → Type 0
+ResumesShort seen old new = ((images_of new ≡ images_of old) × (faults_of new ≡ faults_of old)) ⊎ StopsShort seen old new
 
 -- no session goes on: the first damaged disk is named exactly where one is, and else the first one that isn't usable; a disk is said to have failed only
 -- where its count of faults rose while the journals were read. The bytes on the disks stay
@@ -114,22 +119,22 @@ pub record StopsAtOnce (why : ReopenErr) (old new : List Seen) : Type 0 where
   pub images : images_of new ≡ images_of old
 
 -- and the counts of faults say whose call failed
-abbrev pub IsRefusedAs : ReopenErr → List Seen → List Seen → Type 0
-IsRefusedAs (Err_is.Damaged number at) old new = StopsAtOnce (Err_is.Damaged number at) old new × (faults_of new ≡ faults_of old)
-IsRefusedAs (Err_is.Foreign number) old new = StopsAtOnce (Err_is.Foreign number) old new × (faults_of new ≡ faults_of old)
-IsRefusedAs (Err_is.Disk number) old new = StopsAtOnce (Err_is.Disk number) old new × RisesAt number old new
-IsRefusedAs Err_is.Memory old new = ResumesShort old new
+abbrev pub IsRefusedAs : {D : Type 0} → (D → Seen) → ReopenErr → List Seen → List Seen → Type 0
+IsRefusedAs seen (Err_is.Damaged number at) old new = StopsAtOnce (Err_is.Damaged number at) old new × (faults_of new ≡ faults_of old)
+IsRefusedAs seen (Err_is.Foreign number) old new = StopsAtOnce (Err_is.Foreign number) old new × (faults_of new ≡ faults_of old)
+IsRefusedAs seen (Err_is.Disk number) old new = StopsAtOnce (Err_is.Disk number) old new × RisesAt number old new
+IsRefusedAs seen Err_is.Memory old new = ResumesShort seen old new
 
 -- what was made, or why nothing was
 abbrev pub answered : Result Output Memory → Result Output ReopenErr
 answered (Ok output) = Ok output
 answered (Err why) = Err Err_is.Memory
 
--- what `resume` makes of the disks
-abbrev pub ResumesAs : Result Output ReopenErr → List Seen → List Seen → Type 0
-ResumesAs (Ok (Whole output)) old new = ResumesWhole output.items old new
-ResumesAs (Ok (Broken output)) old new = ResumesBroken output.items old new
-ResumesAs (Err why) old new = IsRefusedAs why old new
+-- what `resume` makes of disks of which this is seen
+abbrev pub ResumesAs : {D : Type 0} → (D → Seen) → Result Output ReopenErr → List Seen → List Seen → Type 0
+ResumesAs seen (Ok (Whole output)) old new = ResumesWhole output.items old new
+ResumesAs seen (Ok (Broken output)) old new = ResumesBroken seen output.items old new
+ResumesAs seen (Err why) old new = IsRefusedAs seen why old new
 
 -- ---- the disks that a session left
 

@@ -1,6 +1,6 @@
 -- How large the journals may be from which a session goes on.
-use Rattle.std.specs.Prelude.{◌≤◌, ◌^◌, nat_le, Bool, List, map}
-use Rattle.mdb_base.specs.Words.{each_of, Each}
+use Rattle.std.specs.Prelude.{◌^◌, nat_le, Bool, List}
+use Rattle.mdb_base.specs.Words.{each_of}
 use Rattle.journal_disk.specs.Disk.{Seen}
 
 -- no disk has more than 67,108,864 bytes

@@ -46,7 +46,7 @@ pub fn resume_output_of<D: Disk>(alloc: Global, disks: &mut Vec<D>) -> Result<Ou
     requires told { IsTrue D.tells }
     requires nine { length disks.old.items ≡ 9 }
     requires synced { AreSynced (images_of (map D.seen disks.old.items)) }
-    ensures output { ResumesAs result (map D.seen disks.old.items) (map D.seen disks.new.items) }
+    ensures output { ResumesAs D.seen result (map D.seen disks.old.items) (map D.seen disks.new.items) }
     ensures left { GoesOnFromLeft result (map D.seen disks.old.items) }
     ensures nine { length disks.new.items ≡ 9 }
 {

@@ -4,10 +4,8 @@ use Rattle.session_outputs.specs.declared.output.Output.{Output}
 use Rattle.fed_rules.specs.Resumed.{going_on, resuming}
 use Rattle.closing.specs.Towards.{BreaksAt, FailsToward, IsShort}
 use Rattle.fed_world.specs.declared.errors.WorldErr.{WorldErr}
-use Rattle.fed_world.specs.declared.errors.WorldErr.TheVariants as World_err
-use Rattle.fed_world.specs.Faults.{FailedAs, RisesAt, faults_of}
+use Rattle.fed_world.specs.Faults.{FailedAs, faults_of}
 use Rattle.fed_world.specs.Lines.{AreLinesIn}
-use Rattle.fed_world.proofs.Faults.{failed_later}
 use Rattle.fed_world.proofs.Recalled.{recalls}
 use Rattle.found_disks.specs.Finding.{found_in}
 use Rattle.found_disks.specs.Reading.{images_of}
@@ -95,8 +93,8 @@ returns-in-Ok-close-clause-output g c =
     let stood = c.in-Ok-close.ensures.done (going_on found) [] r.stands can in
     let rests = c.in-Ok-close.ensures.rests (going_on found) [] r.stands can in
     let kept = stands_keeps g.D.Disk.tells c.close.new.world new (going_on found) (resuming found) c.requires.told (all_sized seen sized c.close.new.disks.items) goes stood in
-    subst (λ result. ResumesAs result old new) (sym c.answered.ensures)
-    (whole_answered c.printed.result old new
+    subst (λ result. ResumesAs seen result old new) (sym c.answered.ensures)
+    (whole_answered seen c.printed.result old new
     (whole_weaker c.printed.result _ _
     (λ bytes printed. record {
       found = found;
@@ -123,12 +121,13 @@ pub broken-requires : goal.broken-requires
 broken-requires g c =
     let seen = g.D.Disk.seen in
     let old = map seen c.args.disks.now.items in
+    let mid = map seen c.reopen.new.disks.items in
     let r = c.in-Ok.ensures.reopened in
     let found = found_in (images_of old) r.journals in
     let sized : (one : g.row.D.Denot) → length (seen one).image.bytes ≡ (seen one).size = λ one. g.met.D.Disk.told_size one c.requires.told in
     let can = may_close c.found_sessions_begin_shortly.ensures seen sized c.args.disks.now.items _ _ c.as_slice.ensures.value c.are_small.ensures c.if-not-are_small.false r.journals r.read r.named in
-    let b : BreaksAt c.in-Err-Disk.number g.D.Disk.tells c.close.new.world (map seen c.close.new.disks.items) (resuming found) (going_on found) [] =
-    subst (λ (why : WorldErr). FailsToward g.D.Disk.tells why c.close.new.world (map seen c.close.new.disks.items) (resuming found) (going_on found) []) c.in-Err-Disk.field-0-is
+    let b : BreaksAt seen c.in-Err-Disk.number g.D.Disk.tells mid c.close.new.world (map seen c.close.new.disks.items) (resuming found) (going_on found) [] =
+    subst (λ (why : WorldErr). FailsToward seen g.D.Disk.tells why mid c.close.new.world (map seen c.close.new.disks.items) (resuming found) (going_on found) []) c.in-Err-Disk.field-0-is
     (c.in-Err-Disk.ensures.failed (going_on found) [] r.stands can) in
     lines_fit c.resumed_lines_fit.ensures.all found (found_goes_on (images_of old) r.journals r.stands.has.begins).usable (b.done ++ []) c.lines.result.now
     (c.sessions_close_heard.ensures.resuming found (b.left ++ b.command ∷ []) (b.done ++ []) (printed_front b.left b.command (b.done ++ []) ∙ sym b.of_whole))
@@ -145,15 +144,13 @@ returns-in-Err-Disk-clause-output g c =
     let sized : (one : g.row.D.Denot) → length (seen one).image.bytes ≡ (seen one).size = λ one. g.met.D.Disk.told_size one c.requires.told in
     let can = may_close c.found_sessions_begin_shortly.ensures seen sized c.args.disks.now.items _ _ c.as_slice.ensures.value c.are_small.ensures c.if-not-are_small.false r.journals r.read r.named in
     let goes = found_goes_on (images_of old) r.journals r.stands.has.begins in
-    let b : BreaksAt c.in-Err-Disk.number g.D.Disk.tells c.close.new.world (map seen c.close.new.disks.items) (resuming found) (going_on found) [] =
-    subst (λ (why : WorldErr). FailsToward g.D.Disk.tells why c.close.new.world (map seen c.close.new.disks.items) (resuming found) (going_on found) []) c.in-Err-Disk.field-0-is
+    let b : BreaksAt seen c.in-Err-Disk.number g.D.Disk.tells mid c.close.new.world (map seen c.close.new.disks.items) (resuming found) (going_on found) [] =
+    subst (λ (why : WorldErr). FailsToward seen g.D.Disk.tells why mid c.close.new.world (map seen c.close.new.disks.items) (resuming found) (going_on found) []) c.in-Err-Disk.field-0-is
     (c.in-Err-Disk.ensures.failed (going_on found) [] r.stands can) in
     let is_found : IsFoundOn old found = record { journals = r.journals; read = r.read; is = refl; usable = goes.usable } in
-    let rose : RisesAt c.in-Err-Disk.number old new =
-    failed_later (World_err.Disk c.in-Err-Disk.number) old mid new c.in-Ok.ensures.cause (subst (λ (why : WorldErr). FailedAs why mid new) c.in-Err-Disk.field-0-is c.in-Err-Disk.ensures.cause) in
-    let broke = breaks_behind g.D.Disk.tells c.close.new.world old new found c.in-Err-Disk.number c.requires.told (all_sized seen sized c.close.new.disks.items) goes rose b in
-    subst (λ result. ResumesAs result old new) (sym c.answered-in-Err-Disk.ensures)
-    (broken_answered c.broken.result old new
+    let broke = breaks_behind seen sized g.D.Disk.tells c.close.new.world old mid new found c.in-Err-Disk.number c.requires.told (all_sized seen sized c.close.new.disks.items) goes c.in-Ok.ensures.cause b in
+    subst (λ result. ResumesAs seen result old new) (sym c.answered-in-Err-Disk.ensures)
+    (broken_answered seen c.broken.result old new
     (if_broken c.broken.result _ _
     (λ bytes is. record {
       found = found;
@@ -188,7 +185,7 @@ returns-in-Ok-clause-output g c =
     let can = may_close c.found_sessions_begin_shortly.ensures seen sized c.args.disks.now.items _ _ c.as_slice.ensures.value c.are_small.ensures c.if-not-are_small.false r.journals r.read r.named in
     let goes = found_goes_on (images_of old) r.journals r.stands.has.begins in
     let s : IsShort g.D.Disk.tells c.close.new.world new (resuming found) (going_on found) [] =
-    subst (λ (why : WorldErr). FailsToward g.D.Disk.tells why c.close.new.world new (resuming found) (going_on found) []) c.in-Err-Memory.field-0-is
+    subst (λ (why : WorldErr). FailsToward seen g.D.Disk.tells why (map seen c.reopen.new.disks.items) c.close.new.world new (resuming found) (going_on found) []) c.in-Err-Memory.field-0-is
     (c.in-Err-Memory.ensures.failed (going_on found) [] r.stands can) in
     let calm : faults_of new ≡ faults_of old =
     subst (λ (why : WorldErr). FailedAs why (map seen c.reopen.new.disks.items) new) c.in-Err-Memory.field-0-is c.in-Err-Memory.ensures.cause ∙ c.in-Ok.ensures.cause in
@@ -208,7 +205,7 @@ returns-in-Ok-clause-nine g c =
 
 pub returns-clause-output : goal.returns-clause-output
 returns-clause-output g c =
-    refused_as c.in-Err.why (map g.D.Disk.seen c.args.disks.now.items) (map g.D.Disk.seen c.reopen.new.disks.items) c.in-Err.ensures.reopened c.in-Err.ensures.images c.in-Err.ensures.cause
+    refused_as g.D.Disk.seen c.in-Err.why (map g.D.Disk.seen c.args.disks.now.items) (map g.D.Disk.seen c.reopen.new.disks.items) c.in-Err.ensures.reopened c.in-Err.ensures.images c.in-Err.ensures.cause
 
 pub returns-clause-left : goal.returns-clause-left
 returns-clause-left g c = refused_left c.left_disks_are_accepted.ensures c.left_disks_go_on.ensures c.in-Err.why (map g.D.Disk.seen c.args.disks.now.items) c.in-Err.ensures.reopened
