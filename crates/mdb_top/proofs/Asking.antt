@@ -6,7 +6,7 @@ use Rattle.session_outputs.specs.declared.making.Making.{Making}
 use Rattle.mdb_top.specs.declared.words.Job.{Job}
 use Rattle.mdb_top.specs.declared.words.Job.TheVariants.{Audit, Make, Replay, Resume, Run}
 use Rattle.mdb_top.specs.Made.{made_by}
-use Rattle.mdb_top.specs.Verdicts.{asked_by, asked_of_folder, folder_job, is_folder, job_of, or_command}
+use Rattle.mdb_top.specs.Verdicts.{asked_by, asked_of_folder, folder_job, is_folder, or_command}
 
 -- one word alone doesn't
 never_alone : (a b c : Bool) → cond a (Some Replay) (cond b (Some Run) (cond c (Some Audit) None)) ≡ Some Resume → ⊥

@@ -28,9 +28,9 @@ not_four status a b c d f g h k (inr (inr i)) = not_two status c d h k i
 abbrev Goes : List Seen → Type 0
 Goes disks = (scenario : Scenario) (commands : List Command) → IsLeft disks scenario commands → AllGoesOn disks scenario (story_of scenario commands)
 
-module _ (sink : Stream) (old new : List Seen) where
+module _ {D : Type 0} (see : D → Seen) (sink : Stream) (old new : List Seen) where
   -- memory is wanting
-  short_ends : Goes old → (ResumesShort old new ⊎ SomeUntold old new) → Gets sink no_memory_text → ResumeEnds 6 sink old new
+  short_ends : Goes old → (ResumesShort see old new ⊎ SomeUntold see old new) → Gets sink no_memory_text → ResumeEnds see 6 sink old new
   short_ends goes short text = record {
     led = inr (inr (inr (inl refl)));
     done = λ e. absurd cc;
@@ -47,7 +47,7 @@ module _ (sink : Stream) (old new : List Seen) where
   }
 
   -- a call of a disk failed
-  failed_ends : Goes old → (GetsSome sink (λ output. ResumesBroken output old new) ⊎ SomeFailed sink old new) → ResumeEnds 5 sink old new
+  failed_ends : Goes old → (GetsSome sink (λ output. ResumesBroken see output old new) ⊎ SomeFailed see sink old new) → ResumeEnds see 5 sink old new
   failed_ends goes broken = record {
     led = inr (inr (inl refl));
     done = λ e. absurd cc;
@@ -64,10 +64,10 @@ module _ (sink : Stream) (old new : List Seen) where
   }
 
   -- the output is whole
-  whole_ends : (status : ℕ) (output : List ℕ) → Goes old → ResumesWhole output old new → IsPutWhole status sink output → ResumeEnds status sink old new
+  whole_ends : (status : ℕ) (output : List ℕ) → Goes old → ResumesWhole output old new → IsPutWhole status sink output → ResumeEnds see status sink old new
   whole_ends status output goes whole put = by_status put.either
     where
-      by_status : In status (0 ∷ 4 ∷ []) → ResumeEnds status sink old new
+      by_status : In status (0 ∷ 4 ∷ []) → ResumeEnds see status sink old new
       by_status i =
           let other : (n : ℕ) → (n ≡ 0 → ⊥) → (n ≡ 4 → ⊥) → status ≡ n → ⊥ =
           λ n f g e. not_two n 0 4 f g (subst (λ (m : ℕ). In m (0 ∷ 4 ∷ [])) e i) in
@@ -88,22 +88,22 @@ module _ (sink : Stream) (old new : List Seen) where
           }
 
   -- what was made of the disks was put
-  pub output_ends : (status : ℕ) (output : Output) → ResumesAs (Ok output) old new → GoesOnFromLeft {T = Output} (Ok output) old → IsPut status sink (Ok output) → ResumeEnds status sink old new
+  pub output_ends : (status : ℕ) (output : Output) → ResumesAs see (Ok output) old new → GoesOnFromLeft {T = Output} (Ok output) old → IsPut status sink (Ok output) → ResumeEnds see status sink old new
   output_ends status (Whole bytes) made left put = whole_ends status bytes.items (λ scenario commands l. (left scenario commands l).1) made put
-  output_ends status (Broken bytes) made left put = subst (λ (n : ℕ). ResumeEnds n sink old new) (sym put.0)
+  output_ends status (Broken bytes) made left put = subst (λ (n : ℕ). ResumeEnds see n sink old new) (sym put.0)
       (failed_ends (λ scenario commands l. (left scenario commands l).1) (inl (record { output = bytes.items; holds = made; put = put.1 })))
 
   -- a text was said with its status, or memory was wanting for it
-  said_ends : (status own : ℕ) (text : List ℕ) → Goes old → (ResumesShort old new ⊎ SomeUntold old new) → IsSaid own text status sink → (Gets sink text → ResumeEnds own sink old new) → ResumeEnds status sink old new
+  said_ends : (status own : ℕ) (text : List ℕ) → Goes old → (ResumesShort see old new ⊎ SomeUntold see old new) → IsSaid own text status sink → (Gets sink text → ResumeEnds see own sink old new) → ResumeEnds see status sink old new
   said_ends status own text goes short said ends = by_status said.either
     where
-      by_status : In status (own ∷ 6 ∷ []) → ResumeEnds status sink old new
-      by_status (inl e) = subst (λ (n : ℕ). ResumeEnds n sink old new) e (ends (said.said (sym e)))
-      by_status (inr (inl e)) = subst (λ (n : ℕ). ResumeEnds n sink old new) e (short_ends goes short (said.no_memory (sym e)))
+      by_status : In status (own ∷ 6 ∷ []) → ResumeEnds see status sink old new
+      by_status (inl e) = subst (λ (n : ℕ). ResumeEnds see n sink old new) e (ends (said.said (sym e)))
+      by_status (inr (inl e)) = subst (λ (n : ℕ). ResumeEnds see n sink old new) e (short_ends goes short (said.no_memory (sym e)))
       by_status (inr (inr e)) = absurd e
 
   -- a disk is damaged
-  damaged_ends : (number at : ℕ) → GoesOnFromLeft {T = Output} (Err (Damaged number at)) old → IsRefusedAs (Damaged number at) old new → Gets sink (disk_damaged_text number at) → ResumeEnds 10 sink old new
+  damaged_ends : (number at : ℕ) → GoesOnFromLeft {T = Output} (Err (Damaged number at)) old → IsRefusedAs see (Damaged number at) old new → Gets sink (disk_damaged_text number at) → ResumeEnds see 10 sink old new
   damaged_ends number at left refused text = record {
     led = inr (inr (inr (inr (inl refl))));
     done = λ e. absurd cc;
@@ -120,7 +120,7 @@ module _ (sink : Stream) (old new : List Seen) where
   }
 
   -- or foreign
-  foreign_ends : (number : ℕ) → GoesOnFromLeft {T = Output} (Err (Foreign number)) old → IsRefusedAs (Foreign number) old new → Gets sink (disk_foreign_text number) → ResumeEnds 11 sink old new
+  foreign_ends : (number : ℕ) → GoesOnFromLeft {T = Output} (Err (Foreign number)) old → IsRefusedAs see (Foreign number) old new → Gets sink (disk_foreign_text number) → ResumeEnds see 11 sink old new
   foreign_ends number left refused text = record {
     led = inr (inr (inr (inr (inr (inl refl)))));
     done = λ e. absurd cc;
@@ -137,7 +137,7 @@ module _ (sink : Stream) (old new : List Seen) where
   }
 
   -- why no session goes on was put
-  pub refusal_ends : (status : ℕ) (why : ReopenErr) → IsRefusedAs why old new → GoesOnFromLeft {T = Output} (Err why) old → IsRefusalPut status sink why → ResumeEnds status sink old new
+  pub refusal_ends : (status : ℕ) (why : ReopenErr) → IsRefusedAs see why old new → GoesOnFromLeft {T = Output} (Err why) old → IsRefusalPut status sink why → ResumeEnds see status sink old new
   refusal_ends status (Damaged number at) refused left put =
       said_ends status 10 (disk_damaged_text number at) (λ scenario commands l. (left scenario commands l).1) (inl (inl (refused.0.images, refused.1))) put (damaged_ends number at left refused)
   refusal_ends status (Foreign number) refused left put =
@@ -145,4 +145,4 @@ module _ (sink : Stream) (old new : List Seen) where
   refusal_ends status (Disk number) refused left put =
       said_ends status 5 (disk_failed_text number) (λ scenario commands l. (left scenario commands l).1) (inr (number, refused)) put
       (λ text. failed_ends (λ scenario commands l. (left scenario commands l).1) (inr (record { number = number; refused = refused; put = text })))
-  refusal_ends status Memory refused left put = subst (λ (n : ℕ). ResumeEnds n sink old new) (sym put.0) (short_ends (λ scenario commands l. (left scenario commands l).1) (inl refused) put.1)
+  refusal_ends status Memory refused left put = subst (λ (n : ℕ). ResumeEnds see n sink old new) (sym put.0) (short_ends (λ scenario commands l. (left scenario commands l).1) (inl refused) put.1)

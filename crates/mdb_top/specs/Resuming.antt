@@ -17,30 +17,30 @@ use Rattle.mdb_top.specs.Streams.{Gets, IsCalm, Rose, Stream}
 use Rattle.mdb_top.specs.Texts.{disk_damaged_text, disk_foreign_text, no_memory_text}
 
 -- this disk is the first damaged one, at this place, and the sink has got that
-pub record SomeDamaged (sink : Stream) (old new : List Seen) : Type 0 where
+pub record SomeDamaged {D : Type 0} (seen : D → Seen) (sink : Stream) (old new : List Seen) : Type 0 where
   pub number : ℕ
   pub at : ℕ
-  pub refused : IsRefusedAs (Damaged number at) old new
+  pub refused : IsRefusedAs seen (Damaged number at) old new
   pub put : Gets sink (disk_damaged_text number at)
 
 -- none is damaged, this one is the first that isn't usable, and the sink has got that
-pub record SomeForeign (sink : Stream) (old new : List Seen) : Type 0 where
+pub record SomeForeign {D : Type 0} (seen : D → Seen) (sink : Stream) (old new : List Seen) : Type 0 where
   pub number : ℕ
-  pub refused : IsRefusedAs (Foreign number) old new
+  pub refused : IsRefusedAs seen (Foreign number) old new
   pub put : Gets sink (disk_foreign_text number)
 
 -- a call of this disk failed while the journals were read, and the sink has got that
-pub record SomeFailed (sink : Stream) (old new : List Seen) : Type 0 where
+pub record SomeFailed {D : Type 0} (seen : D → Seen) (sink : Stream) (old new : List Seen) : Type 0 where
   pub number : ℕ
-  pub refused : IsRefusedAs (Disk number) old new
+  pub refused : IsRefusedAs seen (Disk number) old new
   pub put : Gets sink (disk_failed_text number)
 
 -- a call of a disk failed while the journals were read, and memory was wanting to say so
-abbrev pub SomeUntold : List Seen → List Seen → Type 0
-SomeUntold old new = (number : ℕ) × IsRefusedAs (Disk number) old new
+abbrev pub SomeUntold : {D : Type 0} → (D → Seen) → List Seen → List Seen → Type 0
+SomeUntold seen old new = (number : ℕ) × IsRefusedAs seen (Disk number) old new
 
--- how it ends: each status with its cause, what the sink has got then, and what is said of the disks
-pub record ResumeEnds (status : ℕ) (sink : Stream) (old new : List Seen) : Type 0 where
+-- how it ends on disks of which this is seen: each status with its cause, what the sink has got then, and what is said of the disks
+pub record ResumeEnds {D : Type 0} (seen : D → Seen) (status : ℕ) (sink : Stream) (old new : List Seen) : Type 0 where
   -- which status comes when; want of memory alone is free
   pub led : In status (0 ∷ 4 ∷ 5 ∷ 6 ∷ 10 ∷ 11 ∷ [])
   pub done : status ≡ 0 → GetsAll sink (λ output. ResumesWhole output old new)
@@ -48,11 +48,11 @@ pub record ResumeEnds (status : ℕ) (sink : Stream) (old new : List Seen) : Typ
   pub no_disk_failed : In status (0 ∷ 4 ∷ 10 ∷ 11 ∷ []) → faults_of new ≡ faults_of old
   pub cut_off : status ≡ 4 → GetsFront sink (λ output. ResumesWhole output old new)
   pub write_failed : status ≡ 4 → Rose sink
-  pub broken : status ≡ 5 → GetsSome sink (λ output. ResumesBroken output old new) ⊎ SomeFailed sink old new
+  pub broken : status ≡ 5 → GetsSome sink (λ output. ResumesBroken seen output old new) ⊎ SomeFailed seen sink old new
   pub no_memory : status ≡ 6 → Gets sink no_memory_text
-  pub short : status ≡ 6 → ResumesShort old new ⊎ SomeUntold old new
-  pub damaged : status ≡ 10 → SomeDamaged sink old new
-  pub foreign : status ≡ 11 → SomeForeign sink old new
+  pub short : status ≡ 6 → ResumesShort seen old new ⊎ SomeUntold seen old new
+  pub damaged : status ≡ 10 → SomeDamaged seen sink old new
+  pub foreign : status ≡ 11 → SomeForeign seen sink old new
   -- the disks that a session left are neither damaged nor foreign, and the session goes on rightly from what is found on them: each attempt keeps its
   -- outcome, each site that settles one says that outcome, and the tables are those of a serial run
   pub left : (scenario : Scenario) (commands : List Command) → IsLeft old scenario commands

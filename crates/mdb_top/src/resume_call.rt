@@ -61,7 +61,7 @@ pub(crate) fn resume<K: Sink, D: Disk>(alloc: Global, sink: &mut K, disks: &mut 
     requires told { IsTrue D.tells }
     requires nine { length disks.old.items ≡ 9 }
     requires synced { AreSynced (images_of (map D.seen disks.old.items)) }
-    ensures ends { ResumeEnds result (stream K.tells (K.written sink.old) (K.written sink.new) (K.faults sink.old) (K.faults sink.new))
+    ensures ends { ResumeEnds D.seen result (stream K.tells (K.written sink.old) (K.written sink.new) (K.faults sink.old) (K.faults sink.new))
         (map D.seen disks.old.items) (map D.seen disks.new.items) }
     ensures nine { length disks.new.items ≡ 9 }
 {

@@ -101,7 +101,7 @@ pub fn federate_store<
         ((source.new ≡ source.old) × StopsAtOne result (store_seen T.tells (T.journals store.old) (T.faults store.old) (T.faults store.new))
         (stream K.tells (K.written sink.old) (K.written sink.new) (K.faults sink.old) (K.faults sink.new)) (map D.seen disks.new.items))
         ⊎ SomeOpened result (store_seen T.tells (T.journals store.old) (T.faults store.old) (T.faults store.new)) (map D.seen disks.new.items)
-        (λ opened. SomeInput S.tells (S.left source.old) (Ends session_of replaying result
+        (λ opened. SomeInput S.tells (S.left source.old) (Ends session_of (replaying D.seen) result
         (stream S.tells (S.left source.old) (S.left source.new) (S.faults source.old) (S.faults source.new))
         (stream K.tells (K.written sink.old) (K.written sink.new) (K.faults sink.old) (K.faults sink.new))
         opened (map D.seen disks.new.items))) }
@@ -111,7 +111,7 @@ pub fn federate_store<
         × (StopsAtOne result (store_seen T.tells (T.journals store.old) (T.faults store.old) (T.faults store.new))
         (stream K.tells (K.written sink.old) (K.written sink.new) (K.faults sink.old) (K.faults sink.new)) (map D.seen disks.new.items)
         ⊎ SomeOpened result (store_seen T.tells (T.journals store.old) (T.faults store.old) (T.faults store.new)) (map D.seen disks.new.items)
-        (λ opened. ResumeEnds result
+        (λ opened. ResumeEnds D.seen result
         (stream K.tells (K.written sink.old) (K.written sink.new) (K.faults sink.old) (K.faults sink.new)) opened (map D.seen disks.new.items))) }
     ensures at_most_nine { length disks.new.items ≤ 9 }
 {

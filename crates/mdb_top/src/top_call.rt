@@ -40,7 +40,7 @@ fn played<K: Sink, D: Disk>(alloc: Global, sink: &mut K, session: Session, disks
     requires told { IsTrue D.tells }
     requires commands { AreCommands session.scenario.sites session.commands }
     requires nine { length disks.old.items ≡ 9 }
-    ensures carries { Carries replaying result (stream K.tells (K.written sink.old) (K.written sink.new) (K.faults sink.old) (K.faults sink.new))
+    ensures carries { Carries (replaying D.seen) result (stream K.tells (K.written sink.old) (K.written sink.new) (K.faults sink.old) (K.faults sink.new))
         (map D.seen disks.old.items) (map D.seen disks.new.items) session }
     ensures nine { length disks.new.items ≡ 9 }
     ensures untouched { result ≡ 8 → disks.new ≡ disks.old }
@@ -63,7 +63,7 @@ fn replay<S: Source, K: Sink, D: Disk>(
 ) -> u8
     requires told { IsTrue D.tells }
     requires nine { length disks.old.items ≡ 9 }
-    ensures ends { SomeInput S.tells (S.left source.old) (Ends session_of replaying result
+    ensures ends { SomeInput S.tells (S.left source.old) (Ends session_of (replaying D.seen) result
         (stream S.tells (S.left source.old) (S.left source.new) (S.faults source.old) (S.faults source.new))
         (stream K.tells (K.written sink.old) (K.written sink.new) (K.faults sink.old) (K.faults sink.new))
         (map D.seen disks.old.items) (map D.seen disks.new.items)) }
@@ -90,7 +90,7 @@ fn ran<R: Threads + Wait + Sync, K: Sink, D: Disk + Send, G: Gate + Sync>(
 ) -> u8
     requires told { IsTrue D.tells }
     requires nine { length disks.old.items ≡ 9 }
-    ensures carries { Carries (running D.tells) result (stream K.tells (K.written sink.old) (K.written sink.new) (K.faults sink.old) (K.faults sink.new))
+    ensures carries { Carries (running D.seen D.tells) result (stream K.tells (K.written sink.old) (K.written sink.new) (K.faults sink.old) (K.faults sink.new))
         (map D.seen disks.old.items) (map D.seen disks.new.items) scenario }
     ensures nine { length disks.new.items ≡ 9 }
     ensures untouched { result ≡ 8 → disks.new ≡ disks.old }
@@ -115,7 +115,7 @@ fn run<R: Threads + Wait + Sync, S: Source, K: Sink, D: Disk + Send, G: Gate + S
 ) -> u8
     requires told { IsTrue D.tells }
     requires nine { length disks.old.items ≡ 9 }
-    ensures ends { SomeInput S.tells (S.left source.old) (Ends scenario_of (running D.tells) result
+    ensures ends { SomeInput S.tells (S.left source.old) (Ends scenario_of (running D.seen D.tells) result
         (stream S.tells (S.left source.old) (S.left source.new) (S.faults source.old) (S.faults source.new))
         (stream K.tells (K.written sink.old) (K.written sink.new) (K.faults sink.old) (K.faults sink.new))
         (map D.seen disks.old.items) (map D.seen disks.new.items)) }
@@ -143,7 +143,7 @@ fn made<R: Threads + Wait + Sync, K: Sink, D: Disk + Send, G: Gate + Sync>(
     requires told { IsTrue D.tells }
     requires makeable { IsMakeable making }
     requires nine { length disks.old.items ≡ 9 }
-    ensures carries { Carries (makes.making D.tells) result (stream K.tells (K.written sink.old) (K.written sink.new) (K.faults sink.old) (K.faults sink.new))
+    ensures carries { Carries (makes.making D.seen D.tells) result (stream K.tells (K.written sink.old) (K.written sink.new) (K.faults sink.old) (K.faults sink.new))
         (map D.seen disks.old.items) (map D.seen disks.new.items) making }
     ensures status { In result (0 ∷ 4 ∷ 5 ∷ 6 ∷ 8 ∷ []) }
     ensures nine { length disks.new.items ≡ 9 }
@@ -187,19 +187,19 @@ pub fn federate<R: Threads + Wait + Sync, S: Source, K: Sink, D: Disk + Send, G:
 
     // A replay: of one input, which is that of the source where it tells, each status comes with its cause, with what the sink has got
     // then and with what the disks hold.
-    ensures replays { asked_by (map string_bytes words.now) ≡ Some asks.Replay → SomeInput S.tells (S.left source.old) (Ends session_of replaying result
+    ensures replays { asked_by (map string_bytes words.now) ≡ Some asks.Replay → SomeInput S.tells (S.left source.old) (Ends session_of (replaying D.seen) result
         (stream S.tells (S.left source.old) (S.left source.new) (S.faults source.old) (S.faults source.new))
         (stream K.tells (K.written sink.old) (K.written sink.new) (K.faults sink.old) (K.faults sink.new))
         (map D.seen disks.old.items) (map D.seen disks.new.items)) }
 
     // A run in threads: likewise, of a scenario without commands.
-    ensures runs { asked_by (map string_bytes words.now) ≡ Some asks.Run → SomeInput S.tells (S.left source.old) (Ends scenario_of (running D.tells) result
+    ensures runs { asked_by (map string_bytes words.now) ≡ Some asks.Run → SomeInput S.tells (S.left source.old) (Ends scenario_of (running D.seen D.tells) result
         (stream S.tells (S.left source.old) (S.left source.new) (S.faults source.old) (S.faults source.new))
         (stream K.tells (K.written sink.old) (K.written sink.new) (K.faults sink.old) (K.faults sink.new))
         (map D.seen disks.old.items) (map D.seen disks.new.items)) }
 
     // A made scenario: of what the words say and of no input; nothing is read.
-    ensures makes { (asked : TheMaking) → asked_by (map string_bytes words.now) ≡ Some (asks.Make asked) → Carries (makes.making D.tells) result
+    ensures makes { (asked : TheMaking) → asked_by (map string_bytes words.now) ≡ Some (asks.Make asked) → Carries (makes.making D.seen D.tells) result
         (stream K.tells (K.written sink.old) (K.written sink.new) (K.faults sink.old) (K.faults sink.new))
         (map D.seen disks.old.items) (map D.seen disks.new.items) asked }
     ensures unread_made { (asked : TheMaking) → asked_by (map string_bytes words.now) ≡ Some (asks.Make asked) → source.new ≡ source.old }
@@ -211,7 +211,7 @@ pub fn federate<R: Threads + Wait + Sync, S: Source, K: Sink, D: Disk + Send, G:
         (map D.seen disks.old.items) (map D.seen disks.new.items)) }
 
     // A session that goes on from the disks, whose bytes are all synced: of no input; nothing is read.
-    ensures resumes { asked_by (map string_bytes words.now) ≡ Some asks.Resume → ResumeEnds result
+    ensures resumes { asked_by (map string_bytes words.now) ≡ Some asks.Resume → ResumeEnds D.seen result
         (stream K.tells (K.written sink.old) (K.written sink.new) (K.faults sink.old) (K.faults sink.new))
         (map D.seen disks.old.items) (map D.seen disks.new.items) }
     ensures unread_resumed { asked_by (map string_bytes words.now) ≡ Some asks.Resume → source.new ≡ source.old }
