@@ -37,5 +37,5 @@ returns-clause-failed g c =
     (λ why failed session commands s fits.
     let are = takes_made session commands c.deref-2.result.now c.in-Ok-takes.commands.items c.deref.result.now c.in-Ok.places.items c.deref-2.ensures.value c.in-Ok-takes.ensures c.deref.ensures.value
     (c.in-Ok.ensures session commands (has_lines _ _ _ _ _ s)) in
-    subst (λ all. FailsToward g.D.Disk.tells why c.carry_out.new.world (map g.D.Disk.seen c.carry_out.new.disks.items) all session commands) are (failed session commands s (subst (Fits session) (sym are) fits)))
+    subst (λ all. FailsToward g.D.Disk.seen g.D.Disk.tells why (map g.D.Disk.seen c.args.disks.now.items) c.carry_out.new.world (map g.D.Disk.seen c.carry_out.new.disks.items) all session commands) are (failed session commands s (subst (Fits session) (sym are) fits)))
     c.carry_out.ensures.failed
