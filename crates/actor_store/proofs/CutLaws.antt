@@ -20,7 +20,7 @@ module _ {R : Type 0} (spelling : R → List ℕ) (reading : List ℕ → Option
   -- the bytes of all records' frames, and of those that stand
   pub whole_is : (seen : Seen) (store : Stored R) (rules : Disk R) (trip : Option Trip) → Keeps spelling is_record frame_bytes tells seen store rules trip → bytes_of frame_bytes rules.records ≡ rules.trimmed + spelled_size (entry_frame spelling) store.journal.entries
   whole_is seen store rules trip k =
-      whole_follows spelling reading is_record frame_bytes counts again tells (taken store.standing seen) store.journal rules told (kept_taken spelling tells store.standing seen store.journal k.kept_on) k.stands k.are_records k.written
+      whole_follows spelling frame_bytes counts tells (taken store.standing seen) store.journal rules told (kept_taken spelling tells store.standing seen store.journal k.kept_on) k.stands
 
   -- a cut back of the bytes that are taken as synced
   cut_is : (seen : Seen) (store : Stored R) (rules : Disk R) (trip : Option Trip) → Keeps spelling is_record frame_bytes tells seen store rules trip

@@ -1,11 +1,11 @@
 -- What a store stands for after each call.
-use Rattle.std.proofs.Common.{◌≡◌, ℕ, ◌+◌, ◌-◌, ◌≤◌, min, Bool, true, false, cond, leb, ltb, IsTrue, Option, None, List, [], ◌∷◌, ◌++◌, length, map, take, refl, sym, ap, subst, ◌∙◌, arith, inl, inr, Some}
+use Rattle.std.proofs.Common.{◌≡◌, ℕ, ◌+◌, ◌-◌, ◌≤◌, min, Bool, false, ltb, IsTrue, Option, None, List, [], ◌∷◌, ◌++◌, length, map, take, refl, sym, ap, subst, ◌∙◌, arith, inl, inr, Some}
 use Rattle.std.specs.Prelude.{reverse}
 use Rattle.std.specs.List.{AllByRecursion}
 use Rattle.std.proofs.Math.Seq.{take-append-add}
 use Rattle.std.proofs.lemmas.List.{length-append, length-map, length-reverse, take_all}
 use Rattle.mdb_base.specs.Words.{map_some}
-use Rattle.fed_rules.specs.Disk.{Append, Sync, Stops, Disk, bytes_of, whole, after_call, is_torn, journal as journal_of}
+use Rattle.fed_rules.specs.Disk.{Append, Sync, Stops, Disk, after_call, is_torn, journal as journal_of}
 use Rattle.fed_rules.specs.Happenings.{Trip}
 use Rattle.journal_disk.specs.Disk.{Image, Seen, appended, all_synced, stopped, kept_bytes, synced_bytes, AppendsSome, SyncsSome, IsSound}
 use Rattle.journal_disk.specs.Frames.{IsPayload, frame}
@@ -13,7 +13,7 @@ use Rattle.frame_journal.specs.Journal.{Kept, IsKeptOn, NotesOrNot, with_entry}
 use Rattle.frame_journal.specs.Records.{Entry, as_written, entry_frame, spelled_size, values}
 use Rattle.journal_rules.specs.Stands.{CountsFrames, StandsFor}
 use Rattle.journal_rules.proofs.Keeps.{call_stands}
-use Rattle.journal_rules.proofs.Journals.{entries_follow, torn_follows, written_values}
+use Rattle.journal_rules.proofs.Journals.{all_whole, entries_follow, torn_follows, written_values}
 use Rattle.actor_store.specs.declared.store.SetTrip.{SetTrip}
 use Rattle.actor_store.specs.declared.store.Standing.{Standing}
 use Rattle.actor_store.specs.declared.store.Standing.TheVariants.{Up, Down, Failing}
@@ -38,15 +38,6 @@ pub kept_taken : {R : Type 0} (spelling : R → List ℕ) (tells : Bool) (standi
 kept_taken spelling tells standing seen journal k =
     let same = taken_bytes standing seen.image in
     record { records = (λ t. rw same (k.records t)); whole = k.whole; is_torn = k.is_torn; room = k.room }
-
--- the records that a stop keeps are among them
-pub all_whole : {R : Type 0} (P : R → Type 0) (size : R → ℕ) (n : ℕ) (records : List R) → AllByRecursion P records → AllByRecursion P (whole size n records)
-all_whole P size n [] all = tt
-all_whole {R} P size n (entry ∷ records) all = by_test (leb (bytes_of size (entry ∷ records)) n) (all_whole P size n records all.1)
-  where
-    by_test : (b : Bool) → AllByRecursion P (whole size n records) → AllByRecursion P (cond b (entry ∷ records) (whole size n records))
-    by_test true rest = all
-    by_test false rest = rest
 
 values_push : {R : Type 0} (P : R → Type 0) (entries : List (Entry R)) (entry : R) → AllByRecursion P (values entries) → P entry → AllByRecursion P (values (entries ++ as_written entry ∷ []))
 values_push P [] entry all holds = (holds, tt)
@@ -109,8 +100,8 @@ module _ {R : Type 0} (spelling : R → List ℕ) (reading : List ℕ → Option
     -- the journal knows whether the disk of the rules is torn
     pub torn_agrees : (seen : Seen) (store : Stored R) (rules : Disk R) (trip : Option Trip) → length seen.image.bytes ≡ seen.size → Keeps spelling is_record frame_bytes tells seen store rules trip → store.journal.is_torn ≡ is_torn frame_bytes rules
     torn_agrees seen store rules trip sized k =
-        torn_follows spelling reading is_record frame_bytes counts again tells (taken store.standing seen) store.journal rules told (ap length (taken_bytes store.standing seen.image) ∙ sized)
-        (kept_taken spelling tells store.standing seen store.journal k.kept_on) k.stands k.are_records k.written
+        torn_follows spelling frame_bytes counts tells (taken store.standing seen) store.journal rules told (ap length (taken_bytes store.standing seen.image) ∙ sized)
+        (kept_taken spelling tells store.standing seen store.journal k.kept_on) k.stands
 
     pub sound_stands : (seen : Seen) (store : Stored R) (rules : Disk R) (trip : Option Trip) → Keeps spelling is_record frame_bytes tells seen store rules trip → is_failing store.standing ≡ false → StandsFor spelling frame_bytes seen.image rules
     sound_stands seen store rules trip k sound = let e = taken_sound store.standing seen.image sound in rw e at k.stands

@@ -12,17 +12,12 @@ use Rattle.frame_journal.specs.Records.{Entry, as_written, before_last, entry_fr
 use Rattle.frame_journal.proofs.Sizes.{size_split}
 use Rattle.journal_rules.specs.Stands.{CountsFrames, StandsFor}
 use Rattle.journal_rules.proofs.Keeps.{call_stands, journal_is, sizes_agree}
-use Rattle.journal_rules.proofs.Journals.{bytes_of_append, written_frames}
+use Rattle.journal_rules.proofs.Journals.{before_last_push, bytes_of_append, written_frames}
 use Rattle.actor_store.specs.declared.store.Standing.{Standing}
 use Rattle.actor_store.specs.declared.store.Standing.TheVariants.{Up, Down, Failing}
 use Rattle.actor_store.specs.Store.{Stored, IsInOrder, Keeps, is_failing, taken_as, stopped_disk}
 use Rattle.actor_store.proofs.CutLaws.{whole_is}
 use Rattle.actor_store.proofs.StoreLaws.{built, failing_keeps, sizes, sound_stands, taken_sound}
-
-before_last_push : {A : Type 0} (xs : List A) (x : A) → before_last (xs ++ x ∷ []) ≡ xs
-before_last_push [] x = refl
-before_last_push (a ∷ []) x = refl
-before_last_push {A} (a ∷ b ∷ xs) x = ap (λ (l : List A). a ∷ l) (before_last_push (b ∷ xs) x)
 
 values_last : {R : Type 0} (P : R → Type 0) (entries : List (Entry R)) → AllByRecursion P (values entries) → AllByRecursion P (values (last_alone entries))
 values_last P [] all = all

@@ -103,7 +103,7 @@ module _ {R : Type 0} (spelling : R → List ℕ) (size : R → ℕ) (counts : C
       by_test true rest = (x ∷ newer, refl)
       by_test false rest = rest
 
-  bytes_behind : (newer older : List R) → bytes_of size older ≤ bytes_of size (newer ++ older)
+  pub bytes_behind : (newer older : List R) → bytes_of size older ≤ bytes_of size (newer ++ older)
   bytes_behind [] older = omega arith
   bytes_behind (x ∷ newer) older = let h = bytes_behind newer older in omega (arith, h)
 

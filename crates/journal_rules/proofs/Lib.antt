@@ -1,3 +1,4 @@
 pub mod Keeps
 pub mod Journals
+pub mod Making
 pub mod Respelling

@@ -15,7 +15,7 @@ use Rattle.frame_journal.proofs.Trimmed.{lt_shift}
 use Rattle.journal_rules.specs.Stands.{record_frame, respelled, with_front}
 use Rattle.journal_rules.proofs.Journals.{written_frames, written_values}
 
-image_is : {a b : List ℕ} {m n : ℕ} → a ≡ b → m ≡ n → (let i : Image = record { bytes = a; synced = m } in i) ≡ (let i : Image = record { bytes = b; synced = n } in i)
+pub image_is : {a b : List ℕ} {m n : ℕ} → a ≡ b → m ≡ n → (let i : Image = record { bytes = a; synced = m } in i) ≡ (let i : Image = record { bytes = b; synced = n } in i)
 image_is e f = cc
 
 -- ---- other bytes in the place of the first n

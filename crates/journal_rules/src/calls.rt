@@ -1,9 +1,12 @@
 //! Any calls on a journal, one after the other, and what is read of its disk at the end.
-ghost use Rattle.std.specs.Prelude.{◌≡◌, ◌≤◌, ◌<◌, ℕ, length, IfOk, IsErrOf, IsTrue};
+ghost use Rattle.std.specs.Prelude.{◌≡◌, ◌≤◌, ◌<◌, ℕ, length, map, reverse, IfOk, OnOk, IsErrOf, IsTrue};
 ghost use Rattle.std.specs.List.{AllByRecursion};
+ghost use Rattle.mdb_base.specs.Counts.{HasRisen};
+ghost use Rattle.fed_rules.specs.Disk.{journal as journal_of};
 ghost use Rattle.frame_journal.specs.Journal.{IsKeptOn};
-ghost use Rattle.frame_journal.specs.Records.{entry_frame, AreRecordsOf};
-ghost use Rattle.journal_rules.specs.Calls.{IsWritable, MayBeMade};
+ghost use Rattle.frame_journal.specs.Records.{as_written, entry_frame, AreRecordsOf};
+ghost use Rattle.journal_rules.specs.Calls.{Follows, IsWritable, MayBeMade, NoneFailed, bytes_after, disk_after};
+ghost use Rattle.journal_rules.specs.Stands.{StandsFor};
 
 use frame_journal::{Format, Journal};
 use journal_disk::{Disk, JournalErr};
@@ -22,7 +25,8 @@ pub enum JournalCall<R: Drop> {
 }
 
 /// Makes these calls on the journal of an empty disk, the last one of the list first, of which the disk may fail any. What is then loaded
-/// are exactly the records whose frames are whole on the disk: none of them is no record, and none is damaged.
+/// are exactly the records whose frames are whole on the disk: none of them is no record, and none is damaged. Where no call failed, the
+/// bytes and the records are those of the rules after the same calls.
 pub fn load_after_calls<R: Drop, F: Format<R>, D: Disk>(
     alloc: Global,
     disk: &mut D,
@@ -33,6 +37,13 @@ pub fn load_after_calls<R: Drop, F: Format<R>, D: Disk>(
     ensures whole { IfOk result (λ journal. IsTrue D.tells → AreRecordsOf (entry_frame F.spelling) (D.seen disk.new).image.bytes journal.entries) }
     ensures records { (at : ℕ) → IsErrOf result (JournalErr.Malformed at) → IsTrue D.tells → ⊥ }
     ensures undamaged { (at : ℕ) → IsErrOf result (JournalErr.Damaged at) → IsTrue D.tells → ⊥ }
+    ensures failed { IsErrOf result JournalErr.Failed → HasRisen (D.seen disk.old).faults (D.seen disk.new).faults }
+    ensures loaded { IfOk result (λ journal. IsTrue D.tells → NoneFailed (D.seen disk.old).faults (D.seen disk.new).faults
+        → journal.entries ≡ map as_written (reverse (journal_of F.frame_bytes (disk_after F.frame_bytes calls.items)))) }
+    ensures image { OnOk result (IsTrue D.tells → NoneFailed (D.seen disk.old).faults (D.seen disk.new).faults
+        → (D.seen disk.new).image ≡ bytes_after F.spelling F.frame_bytes calls.items) }
+    ensures stands { OnOk result (IsTrue D.tells → NoneFailed (D.seen disk.old).faults (D.seen disk.new).faults
+        → StandsFor F.spelling F.frame_bytes (D.seen disk.new).image (disk_after F.frame_bytes calls.items)) }
 {
     let mut journal = Journal::<R, F>::new(alloc);
     let mut calls = calls;
@@ -53,31 +64,67 @@ fn make_call<R: Drop, F: Format<R>, D: Disk>(
 ) -> Result<(), Memory>
     requires kept_on { IsKeptOn F.spelling D.tells (D.seen disk.old) journal.old }
     requires may { MayBeMade F.spelling F.in_range F.is_checkpoint call }
-    ensures { IsKeptOn F.spelling D.tells (D.seen disk.new) journal.new }
+    ensures kept_on { IsKeptOn F.spelling D.tells (D.seen disk.new) journal.new }
+    ensures later { (D.seen disk.old).faults ≤ (D.seen disk.new).faults }
+    ensures follows { OnOk result (IsTrue D.tells → NoneFailed (D.seen disk.old).faults (D.seen disk.new).faults
+        → Follows F.spelling F.is_record F.frame_bytes call (D.seen disk.old).image (D.seen disk.new).image) }
 {
     match call {
-        JournalCall::Note(entry) => {
-            if journal.is_torn() {
-                return Ok(());
-            }
-            journal.reserve(alloc, disk, &entry)?;
-            let _ = journal.note(disk, entry);
-        }
-        JournalCall::Force(entry) => {
-            if journal.is_torn() {
-                return Ok(());
-            }
-            journal.reserve(alloc, disk, &entry)?;
-            let _ = journal.force(disk, entry);
-        }
-        JournalCall::Check(entry) => return check(alloc, disk, journal, entry),
+        JournalCall::Note(entry) => note(alloc, disk, journal, entry),
+        JournalCall::Force(entry) => force(alloc, disk, journal, entry),
+        JournalCall::Check(entry) => check(alloc, disk, journal, entry),
         JournalCall::Cut => {
             let _ = journal.cut(disk);
+            Ok(())
         }
         JournalCall::Stop(cut) => {
             journal.stop(disk, cut);
+            Ok(())
         }
     }
+}
+
+// Appends an entry.
+fn note<R: Drop, F: Format<R>, D: Disk>(
+    alloc: Global,
+    disk: &mut D,
+    journal: &mut Journal<R, F>,
+    entry: R,
+) -> Result<(), Memory>
+    requires kept_on { IsKeptOn F.spelling D.tells (D.seen disk.old) journal.old }
+    requires writable { IsWritable F.spelling F.in_range entry }
+    ensures kept_on { IsKeptOn F.spelling D.tells (D.seen disk.new) journal.new }
+    ensures later { (D.seen disk.old).faults ≤ (D.seen disk.new).faults }
+    ensures follows { OnOk result (IsTrue D.tells → NoneFailed (D.seen disk.old).faults (D.seen disk.new).faults
+        → Follows F.spelling F.is_record F.frame_bytes (JournalCall.Note entry) (D.seen disk.old).image (D.seen disk.new).image) }
+{
+    if journal.is_torn() {
+        return Ok(());
+    }
+    journal.reserve(alloc, disk, &entry)?;
+    let _ = journal.note(disk, entry);
+    Ok(())
+}
+
+// Appends an entry and syncs.
+fn force<R: Drop, F: Format<R>, D: Disk>(
+    alloc: Global,
+    disk: &mut D,
+    journal: &mut Journal<R, F>,
+    entry: R,
+) -> Result<(), Memory>
+    requires kept_on { IsKeptOn F.spelling D.tells (D.seen disk.old) journal.old }
+    requires writable { IsWritable F.spelling F.in_range entry }
+    ensures kept_on { IsKeptOn F.spelling D.tells (D.seen disk.new) journal.new }
+    ensures later { (D.seen disk.old).faults ≤ (D.seen disk.new).faults }
+    ensures follows { OnOk result (IsTrue D.tells → NoneFailed (D.seen disk.old).faults (D.seen disk.new).faults
+        → Follows F.spelling F.is_record F.frame_bytes (JournalCall.Force entry) (D.seen disk.old).image (D.seen disk.new).image) }
+{
+    if journal.is_torn() {
+        return Ok(());
+    }
+    journal.reserve(alloc, disk, &entry)?;
+    let _ = journal.force(disk, entry);
     Ok(())
 }
 
@@ -91,7 +138,10 @@ fn check<R: Drop, F: Format<R>, D: Disk>(
     requires kept_on { IsKeptOn F.spelling D.tells (D.seen disk.old) journal.old }
     requires writable { IsWritable F.spelling F.in_range entry }
     requires checkpoint { F.is_checkpoint entry }
-    ensures { IsKeptOn F.spelling D.tells (D.seen disk.new) journal.new }
+    ensures kept_on { IsKeptOn F.spelling D.tells (D.seen disk.new) journal.new }
+    ensures later { (D.seen disk.old).faults ≤ (D.seen disk.new).faults }
+    ensures follows { OnOk result (IsTrue D.tells → NoneFailed (D.seen disk.old).faults (D.seen disk.new).faults
+        → Follows F.spelling F.is_record F.frame_bytes (JournalCall.Check entry) (D.seen disk.old).image (D.seen disk.new).image) }
 {
     if journal.is_torn() {
         return Ok(());

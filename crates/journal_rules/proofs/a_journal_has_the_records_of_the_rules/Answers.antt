@@ -5,4 +5,5 @@ pub returns-clause-entries : goal.returns-clause-entries
 returns-clause-entries g c = entries_follow g.F.Format.spelling g.F.Format.reading g.F.Format.is_record g.F.Format.frame_bytes g.met.F.Format.counts_frames g.met.F.Format.spelled_is_read
 
 pub returns-clause-torn : goal.returns-clause-torn
-returns-clause-torn g c = torn_follows g.F.Format.spelling g.F.Format.reading g.F.Format.is_record g.F.Format.frame_bytes g.met.F.Format.counts_frames g.met.F.Format.spelled_is_read
+returns-clause-torn g c = λ tells seen journal disk told sized kept stands entries written.
+    torn_follows g.F.Format.spelling g.F.Format.frame_bytes g.met.F.Format.counts_frames tells seen journal disk told sized kept stands
