@@ -58,3 +58,5 @@ pub mod UsableSites
 pub mod DeclaredHomes
 pub mod Doubtful
 pub mod Founded
+pub mod RunInstalls
+pub mod EngineRows

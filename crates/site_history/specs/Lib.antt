@@ -8,3 +8,4 @@ pub mod Tickets
 pub mod Led
 pub mod Sums
 pub mod FoundSites
+pub mod Tables

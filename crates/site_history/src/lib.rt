@@ -6,6 +6,7 @@ mod right_lines;
 mod serial_pasts;
 mod stories;
 mod sums;
+mod tables;
 
 pub use right_lines::engine_lines_are_right;
 pub use serial_pasts::{
@@ -16,3 +17,4 @@ pub use stories::{
     stories_have_serial_sites, stories_prepare_once, tickets_rise,
 };
 pub use sums::{checkpoints_say_nothing_new, journals_say_all, sites_journals_say_all, sums_go_on};
+pub use tables::engines_have_the_tables_of_their_records;
