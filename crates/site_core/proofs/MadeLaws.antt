@@ -19,6 +19,8 @@ use Rattle.site_history.specs.Events.{AreSorted, IsSorted, PreparesOnce}
 use Rattle.site_history.specs.Lines.{HasRightLines}
 use Rattle.site_history.specs.SiteOrders.{HasGoodStarts, OfSortedPasts}
 use Rattle.site_history.specs.Sums.{JournalSaysAll}
+use Rattle.site_history.specs.Tables.{HasItsTable}
+use Rattle.site_history.proofs.EngineRows.{TabledPast, tabled_first, tabled_on, tabled_opened}
 use Rattle.site_history.proofs.Histories.{no_local_doubt}
 use Rattle.site_history.proofs.InOrderPasts.{OrdersPast, orders_on, orders_past}
 use Rattle.site_history.proofs.OpenedSites.{reopened}
@@ -102,9 +104,10 @@ pub record IsLawful (home : Home) (local : Tx → Bool) (past : SitePast) : Type
   pub well : IsWellKept home local past
   pub sums : SummedPast home past
   pub orders : OrdersPast home past
+  pub tables : TabledPast home past
 
 lawful_first : (home : Home) (local : Tx → Bool) → IsLawful home local []
-lawful_first home local = record { well = well_first home local; sums = record { summed = pasts_summed home local [] tt }; orders = orders_past home local [] tt }
+lawful_first home local = record { well = well_first home local; sums = record { summed = pasts_summed home local [] tt }; orders = orders_past home local [] tt; tables = tabled_first home }
 
 lawful_next : (home : Home) (local : Tx → Bool) (past : SitePast) (event : SiteEvent) → IsSorted local event → IsLawful home local past → IsLawful home local (site_line home past event ∷ past)
 lawful_next home local past event sorted k =
@@ -114,6 +117,7 @@ lawful_next home local past event sorted k =
       well = well_on home local past k.well events all;
       sums = summed_on home local past k.well k.sums events all;
       orders = orders_on home local past k.well k.orders events all;
+      tables = tabled_on home local past k.well k.orders k.tables events all;
     }
 
 -- behind a journal that was found, where the test follows the lines that tell its attempts apart
@@ -122,7 +126,7 @@ lawful_opened home local past o f g =
     let locals : Follows local is_of_local true (opened_site o.journal) = λ tx e. f tx (ap (λ p. was_local tx p) o.is ∙ e) in
     let globals : Follows local is_of_global false (opened_site o.journal) = λ tx e. g tx (ap (λ p. was_global tx p) o.is ∙ e) in
     let r = reopened home local o.journal (record { number = o.number; usable = o.usable; is_home = o.is_home; rising = o.rising; told = all_told local o.journal.records locals globals }) in
-    subst (IsLawful home local) (sym o.is) (record { well = r.well; sums = r.sums; orders = r.orders })
+    subst (IsLawful home local) (sym o.is) (record { well = r.well; sums = r.sums; orders = r.orders; tables = tabled_opened home o.journal r.orders })
 
 -- what events make of nothing goes on
 pub made_goes_on : (home : Home) (past : SitePast) → IsMade home past → IsGoingOn home past
@@ -192,6 +196,10 @@ made_starts home past made = good_starts_on home (λ tx. was_local tx past) past
 -- and the journal says what all records say
 pub made_says_all : (home : Home) (past : SitePast) → IsGoingOn home past → JournalSaysAll home past
 made_says_all home past made = let k = lawful home past made in says_all_on home (λ tx. was_local tx past) past k.well k.sums k.orders [] tt
+
+-- and the engine has the table of the records
+pub made_tabled : (home : Home) (past : SitePast) → IsGoingOn home past → HasItsTable home past
+made_tabled home past made = (lawful home past made).tables.tabled.same
 
 -- what holds of every past that sorted events make, in which no attempt is prepared twice, holds of what events make
 pub of_made_once : (P : Home → SitePast → Type 0) → OfSortedPasts P → (home : Home) (past : SitePast) → IsMade home past → PreparesOnce home past → P home past

@@ -173,9 +173,9 @@ opened_found image home journal f = by_records journal.records journal.torn f
         (trimmed_off home newest older) g.stands (all_records (trimmed_off home newest older) fits) (all_payloads (trimmed_off home newest older) fits) s.parts s.border s.long s.synced
 
 -- a store that keeps that disk behind them keeps it of that past
-pub found_kept : {tells : Bool} {seen : Seen} {store : Store} {rules : Disk SiteRecord} {trip : Option Trip} (journal : Journal SiteRecord) (old : Old SiteRecord) → KeepsBehind tells seen store old rules trip
+pub found_kept : {tells : Bool} {seen : Seen} {rules : Disk SiteRecord} {trip : Option Trip} (store : Store) (journal : Journal SiteRecord) (old : Old SiteRecord) → KeepsBehind tells seen store old rules trip
     → Keeps (was_found (opened_site journal)) tells seen store rules trip
-found_kept journal old k = record { old = old; none = (λ e. let both : true ≡ false = sym (opened_was_found journal) ∙ e in cc); behind = k }
+found_kept store journal old k = record { old = old; none = (λ e. let both : true ≡ false = sym (opened_was_found journal) ∙ e in cc); behind = k }
 
 -- ---- the past
 

@@ -14,7 +14,7 @@ ghost use Rattle.fed_rules.specs.Happenings.{is_down};
 ghost use Rattle.fed_rules.specs.Runs.{rows as rows_after};
 ghost use Rattle.fed_rules.specs.Site.{site_line};
 ghost use Rattle.fed_rules.specs.SitePast.{attempts_of, engine_lines, epoch_start, journal, live, live_of_tx, records, set_up_calls, trip};
-ghost use Rattle.fed_rules.specs.SiteRecords.{doubt_of, local_of};
+ghost use Rattle.fed_rules.specs.SiteRecords.{doubt_of, local_of, site_rows};
 ghost use Rattle.engine_contract.specs.Calls.{fresh_start};
 ghost use Rattle.site_book.specs.Noted.{noted_of};
 ghost use Rattle.actor_store.specs.Store.{is_up};
@@ -205,10 +205,13 @@ impl<E: LocalEngine> SiteCore<E> {
         self.store.trip.is_some()
     }
 
-    /// The rows of a site that is up: those that the epoch started from, and every key that a committed transaction wrote since.
+    /// The rows of a site that is up: those that the epoch started from, and every key that a committed transaction wrote since. They are
+    /// the table of all its records.
     pub fn rows(&self, alloc: Global) -> Result<Puts, Memory>
-        ensures { IfOk result (λ rows. EachPast (Holds E.stands self.now)
+        ensures epoch { IfOk result (λ rows. EachPast (Holds E.stands self.now)
             (λ home past. is_down past ≡ false → rows ≡ rows_after (epoch_start home past) (engine_lines past))) }
+        ensures table { IfOk result (λ rows. EachPast (Holds E.stands self.now)
+            (λ home past. is_down past ≡ false → rows ≡ site_rows home (records home past))) }
     {
         self.engine.rows(alloc)
     }

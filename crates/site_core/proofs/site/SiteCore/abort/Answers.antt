@@ -1,8 +1,8 @@
-use Rattle.std.proofs.Common.{◌≡◌, false, not, Option, Some, None, [], ◌∷◌, refl, sym, ap, ◌∙◌}
+use Rattle.std.proofs.Common.{not, [], ◌∷◌, refl, ap, ◌∙◌}
 use Rattle.mdb_base.proofs.OptionLaws.{nothing_is}
 use Rattle.fed_rules.specs.declared.answers.Answer.TheVariants as Say
 use Rattle.fed_rules.specs.declared.events.SiteEvent.TheVariants as Ev
-use Rattle.fed_rules.specs.Runs.{Aborts, Run, changed}
+use Rattle.fed_rules.specs.Runs.{Aborts, changed}
 use Rattle.fed_rules.specs.SitePast.{engine_lines, epoch_start, is_closed}
 use Rattle.fed_rules.specs.Site.{with_lines}
 use Rattle.site_book.specs.Book.{closes}

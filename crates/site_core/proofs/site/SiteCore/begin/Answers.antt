@@ -1,8 +1,8 @@
-use Rattle.std.proofs.Common.{◌≡◌, ℕ, Some, None, [], ◌∷◌, refl, sym, ap, ◌∙◌, subst}
+use Rattle.std.proofs.Common.{◌≡◌, ℕ, ◌∷◌, refl, sym, ap, ◌∙◌, subst}
 use Rattle.mdb_base.proofs.OptionLaws.{none_left}
 use Rattle.fed_rules.specs.declared.answers.Answer.TheVariants as Say
 use Rattle.fed_rules.specs.declared.events.SiteEvent.TheVariants as Ev
-use Rattle.fed_rules.specs.Runs.{Begins, counter}
+use Rattle.fed_rules.specs.Runs.{Begins}
 use Rattle.fed_rules.specs.Site.{next_number}
 use Rattle.fed_rules.specs.SitePast.{engine_lines, epoch_start}
 use Rattle.site_book.specs.Book.{begins_local}

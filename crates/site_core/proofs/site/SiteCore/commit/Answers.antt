@@ -1,5 +1,4 @@
-use Rattle.std.proofs.Common.{◌≡◌, not, ◌∷◌, [], None, refl, sym, ap, ◌∙◌}
-use Rattle.mdb_base.specs.declared.replies.Why.{Why}
+use Rattle.std.proofs.Common.{not, ◌∷◌, [], None, refl, ap, ◌∙◌}
 use Rattle.mdb_base.proofs.OptionLaws.{nothing_is}
 use Rattle.mdb_base.proofs.ResultLaws.{map_err, map_ok}
 use Rattle.fed_rules.specs.declared.answers.Answer.{Answer}

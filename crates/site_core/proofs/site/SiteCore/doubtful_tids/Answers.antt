@@ -1,4 +1,4 @@
-use Rattle.std.proofs.Common.{◌≡◌, is_some, map, ap, sym, subst, ◌∙◌}
+use Rattle.std.proofs.Common.{is_some, map, ap, sym, subst, ◌∙◌}
 use Rattle.std.proofs.lemmas.Result.{IfOk-weaker}
 use Rattle.mdb_base.proofs.OptionLaws.{some_mapped}
 use Rattle.fed_rules.specs.declared.runs.Doubt.{Doubt}

@@ -1,4 +1,4 @@
-use Rattle.std.proofs.Common.{◌≡◌, is_some, refl, sym, ap, ◌∙◌}
+use Rattle.std.proofs.Common.{is_some, sym, ap, ◌∙◌}
 use Rattle.site_core.proofs.LineLaws.{down_dead}
 use Rattle.site_core.proofs.RememberLaws.{stopped_at}
 use Rattle.site_core.proofs.site.SiteCore.is_live.Goals as goal

@@ -1,4 +1,4 @@
-use Rattle.std.proofs.Common.{◌≡◌, false, not, ◌∙◌}
+use Rattle.std.proofs.Common.{◌≡◌, not, ◌∙◌}
 use Rattle.std.specs.Option.{option_copied}
 use Rattle.mdb_base.specs.Words.{map_some}
 use Rattle.fed_rules.specs.Happenings.{is_down}

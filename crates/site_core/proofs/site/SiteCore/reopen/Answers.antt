@@ -16,7 +16,7 @@ pub returns-in-Ok-found-clause-stands : goal.returns-in-Ok-found-clause-stands
 returns-in-Ok-found-clause-stands g c home journal f of_kind =
     let image = (g.D.Disk.seen c.args.disk.now).image in
     let o = opened_found image home journal f in
-    let kept = found_kept journal o.0 (c.in-Ok-found.ensures.keeps o.0 (disk home (opened_site journal)) o.1) in
+    let kept = found_kept c.in-Ok-found.store journal o.0 (c.in-Ok-found.ensures.keeps o.0 (disk home (opened_site journal)) o.1) in
     let first = found_first g.D.Disk.tells (g.D.Disk.seen c.found.new.disk) c.in-Ok-found.store image home journal f kept in
     let protocol = c.first_protocol-protocol.ensures home (ap (λ l. home_of_first (slice_get l 0)) c.records.ensures ∙ first) in
     stands_opened g.E.LocalEngine.stands g.D.Disk.tells _ image (g.D.Disk.seen c.found.new.disk) home journal f kept c.in-Ok-found.ensures.down of_kind c.new-in-Ok-found.ensures protocol

@@ -1,4 +1,4 @@
-use Rattle.std.proofs.Common.{◌≡◌, false, not, sym, ◌∙◌}
+use Rattle.std.proofs.Common.{◌≡◌, not, sym, ◌∙◌}
 use Rattle.fed_rules.specs.Happenings.{is_down}
 use Rattle.fed_rules.specs.SitePast.{live_of_tx}
 use Rattle.actor_store.specs.declared.store.Standing.{Standing}

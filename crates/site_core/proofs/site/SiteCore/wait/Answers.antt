@@ -1,13 +1,11 @@
-use Rattle.std.proofs.Common.{refl, ap, ◌∙◌}
+use Rattle.std.proofs.Common.{ap}
 use Rattle.mdb_base.proofs.ResultLaws.{map_ok}
-use Rattle.fed_rules.specs.declared.answers.Answer.TheVariants as Say
 use Rattle.fed_rules.specs.declared.events.SiteEvent.TheVariants as Ev
 use Rattle.fed_rules.specs.declared.events.SiteStep.{SiteStep}
 use Rattle.fed_rules.specs.Site.{site_line}
 use Rattle.fed_rules.specs.SitePast.{SitePast}
 use Rattle.fed_rules.specs.SiteRecords.{Home}
-use Rattle.actor_store.specs.declared.errors.StepErr.{StepErr}
-use Rattle.site_core.specs.Stands.{Answers, Breaks, Stands}
+use Rattle.site_core.specs.Stands.{Answers, Stands}
 use Rattle.site_core.specs.Steps.{CanStep, EachPast}
 use Rattle.site_core.proofs.RememberLaws.{answers_as}
 use Rattle.site_core.proofs.StopLaws.{says_down, trip_sets}
