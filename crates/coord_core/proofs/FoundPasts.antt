@@ -30,9 +30,9 @@ opened_was_found protocols journal =
     (writes_more (rewritten coord_reads_as journal.records) (torn_off (long_coord journal.torn) journal.torn) refl)
 
 -- a store that keeps a disk behind some entries keeps it of that past
-pub found_kept : {tells : Bool} {seen : Seen} {store : Store} {rules : Disk CoordRecord} {trip : Option Trip} (protocols : List Participant) (journal : Journal CoordRecord) (old : Old CoordRecord)
+pub found_kept : {tells : Bool} {seen : Seen} {rules : Disk CoordRecord} {trip : Option Trip} (store : Store) (protocols : List Participant) (journal : Journal CoordRecord) (old : Old CoordRecord)
     → KeepsBehind tells seen store old rules trip → Keeps (was_found (opened_coordinator protocols journal)) tells seen store rules trip
-found_kept protocols journal old k = record { old = old; none = (λ e. let both : true ≡ false = sym (opened_was_found protocols journal) ∙ e in cc); behind = k }
+found_kept store protocols journal old k = record { old = old; none = (λ e. let both : true ≡ false = sym (opened_was_found protocols journal) ∙ e in cc); behind = k }
 
 -- a halt writes nothing
 halt_opens : (past : CoordPast) (cut : ℕ) (down : Bool)

@@ -31,7 +31,7 @@ returns-in_err-store-clause-cause g c =
 pub returns-clause-stands : goal.returns-clause-stands
 returns-clause-stands g c journal f =
     let o = disk_found _ journal f.stands in
-    let kept = found_kept c.args.protocols journal o.0 (c.in_ok-store.ensures.keeps o.0 (found_disk journal) o.1) in
+    let kept = found_kept c.in_ok-store.store c.args.protocols journal o.0 (c.in_ok-store.ensures.keeps o.0 (found_disk journal) o.1) in
     stands_opened (g.D.Disk.seen c.args.disk.now).image c.args.protocols journal c.len.ensures.rising f g.P.TakePolicy.policy g.D.Disk.tells
     (record { protocols = c.args.protocols; policy = c.args.policy; tables = c.in_ok-tables.tables; begun = c.in_ok-begun.begun; store = c.in_ok-store.store }) (g.D.Disk.seen c.found.new.disk)
     c.requires.sites refl kept c.in_ok-store.ensures.down (λ tx. c.in_ok-begun.ensures tx ∙ ap (found_attempts tx) c.records.ensures)
