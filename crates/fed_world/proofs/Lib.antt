@@ -8,7 +8,6 @@ pub mod DeclaredPlaces
 pub mod DeclaredSites
 pub mod DeclaredTransactions
 pub mod Disks
-pub mod EngineRows
 pub mod Faults
 pub mod FewCommands
 pub mod FoundBegun
@@ -21,7 +20,6 @@ pub mod FreshWorlds
 pub mod Gathered
 pub mod GoingBack
 pub mod Growing
-pub mod LocalInstalls
 pub mod Lookups
 pub mod MarkedSeats
 pub mod NewWorlds

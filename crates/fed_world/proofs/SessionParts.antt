@@ -1,5 +1,5 @@
 -- What a world hands to the report of its session is that of its story.
-use Rattle.std.proofs.Common.{◌≡◌, ℕ, zero, suc, ◌+◌, Option, Some, List, [], ◌∷◌, ◌++◌, length, map, take, reverse, slice_get, inl, inr, refl, sym, ◌∙◌, ap, ap₂, subst, add-one, arith}
+use Rattle.std.proofs.Common.{◌≡◌, ℕ, zero, suc, ◌+◌, Option, Some, List, [], ◌∷◌, ◌++◌, length, map, take, reverse, slice_get, refl, sym, ◌∙◌, ap, ap₂, subst, add-one, arith}
 use Rattle.std.proofs.lemmas.Option.{slice_get_within}
 use Rattle.mdb_base.specs.declared.names.SiteId.{SiteId}
 use Rattle.mdb_base.specs.declared.names.Tid.{Tid}
@@ -15,17 +15,11 @@ use Rattle.fed_rules.specs.CoordPast as Coordinator
 use Rattle.fed_rules.specs.CoordRecords.{committed_of}
 use Rattle.fed_rules.specs.Orders.{table_at, table_of}
 use Rattle.fed_rules.specs.Reports.{tables}
-use Rattle.fed_rules.specs.Runs.{rows}
 use Rattle.fed_rules.specs.Scenarios.{home_of, sites}
-use Rattle.fed_rules.specs.SitePast.{SitePast, engine_lines, epoch_start, records}
+use Rattle.fed_rules.specs.SitePast.{records}
 use Rattle.fed_rules.specs.SiteRecords.{Home, site_rows}
-use Rattle.fed_rules.specs.Found.{Found}
-use Rattle.fed_rules.specs.Resumed.{going_on}
 use Rattle.fed_rules.specs.Sessions.{Session, fresh}
 use Rattle.fed_rules.specs.Story.{Story, coord_past, past_of, sent_from, story_in, story_of}
-use Rattle.resume_laws.specs.FoundSessions.{AreUsable, IsOfFormat}
-use Rattle.resume_laws.proofs.FoundSessions.{sessions_go_on_so}
-use Rattle.site_history.proofs.MadeSorted.{events_sorted}
 use Rattle.any_engine.specs.declared.engine.AnyEngine.{AnyEngine}
 use Rattle.closing_laws.specs.AtRest.{IsAtRest}
 use Rattle.local_dbms.specs.declared.dbms.LocalDbms.{LocalDbms}
@@ -37,8 +31,7 @@ use Rattle.fed_world.specs.Seats.{OfDbms, SiteAt, SitesAt}
 use Rattle.fed_world.specs.declared.world.World.{World}
 use Rattle.fed_world.specs.Reporting.{Tells, rows_at}
 use Rattle.fed_world.specs.Worlds.{DbmsRecalls, HasLines, Recalls}
-use Rattle.fed_world.specs.Beginnings.{Begins, programs_at}
-use Rattle.fed_world.proofs.EngineRows.{engine_rows, found_rows}
+use Rattle.fed_world.specs.Beginnings.{programs_at}
 use Rattle.fed_world.proofs.RightLines.{right_fresh}
 
 -- ---- lists place by place
@@ -154,42 +147,17 @@ module _ (K : OfDbms) (cores : List (LocalDbms AnyEngine)) (marks : List Marks) 
 
 -- ---- the rows of a site
 
--- the rows of the engine of a site are those of its records
-abbrev HasRows : Session → Type 0
-HasRows session =
-    (commands : List Command) (home : Home) → home_of session.plan home.site ≡ Some home
-    → rows (epoch_start home (past_of home.site (story_in session commands))) (engine_lines (past_of home.site (story_in session commands)))
-    ≡ site_rows home (records home (past_of home.site (story_in session commands)))
-
-fresh_rows : (scenario : Scenario) → HasRows (fresh scenario)
-fresh_rows scenario commands home declared =
-    let m = events_sorted scenario commands home.site home declared in
-    subst (λ (past : SitePast). rows (epoch_start home past) (engine_lines past) ≡ site_rows home (records home past)) (sym m.made) (engine_rows home _ m.events m.sorted)
-
-going_rows : (found : Found) → AreUsable found → Each IsOfFormat found.sites → HasRows (going_on found)
-going_rows found usable format commands home declared =
-    let p = sessions_go_on_so found usable format commands home.site home declared in
-    subst (λ (past : SitePast). rows (epoch_start home past) (engine_lines past) ≡ site_rows home (records home past)) (sym p.is) (found_rows home p.local p.journal p.found p.events p.sorted)
-
-session_rows : (session : Session) → Begins session → HasRows session
-session_rows session (inl is) = subst (λ (s : Session). HasRows s) (sym is) (fresh_rows session.plan)
-session_rows session (inr goes) = subst (λ (s : Session). HasRows s) (sym goes.is) (going_rows session.found goes.usable goes.format)
-
--- so those of a declared site are those of its table
-pub engine_table : (session : Session) → Begins session → (commands : List Command) (site : SiteId) (home : Home) → home.site ≡ site → home_of session.plan site ≡ Some home
-    → rows (epoch_start home (past_of site (story_in session commands))) (engine_lines (past_of site (story_in session commands))) ≡ table_of session.plan (story_in session commands) site
-engine_table session begins commands site home is declared =
-    let story : Story = story_in session commands in
-    let here : home_of session.plan home.site ≡ Some home = ap (home_of session.plan) is ∙ declared in
-    let same : rows (epoch_start home (past_of site story)) (engine_lines (past_of site story)) ≡ site_rows home (records home (past_of site story)) =
-    subst (λ (z : SiteId). rows (epoch_start home (past_of z story)) (engine_lines (past_of z story)) ≡ site_rows home (records home (past_of z story))) is (session_rows session begins commands home here) in
-    same ∙ (ap (λ z. site_rows home (records home (past_of z story))) (sym is) ∙ ap (λ o. table_at o story) (sym declared))
+-- the table of a declared site is that of its records
+pub declared_table : (scenario : Scenario) (story : Story) (site : SiteId) (home : Home) → home.site ≡ site → home_of scenario site ≡ Some home
+    → site_rows home (records home (past_of site story)) ≡ table_of scenario story site
+declared_table scenario story site home is declared =
+    ap (λ z. site_rows home (records home (past_of z story))) (sym is) ∙ ap (λ o. table_at o story) (sym declared)
 
 -- what the core of the site at a place gives
 pub rows_are : (session : Session) (commands : List Command) (world : World) → Recalls world session commands → (place : ℕ) (site : SiteId) → slice_get (sites session.plan) place ≡ Some site
     → (dbms : LocalDbms AnyEngine) (traffic : Traffic) → slice_get world.cores.sites.items.items place ≡ Some dbms → slice_get world.traffic.items place ≡ Some traffic
     → (puts : List Put) → ((home : Home) → DbmsRecalls dbms home (programs_at session site) (past_of site (story_in session commands))
-    → puts ≡ rows (epoch_start home (past_of site (story_in session commands))) (engine_lines (past_of site (story_in session commands))))
+    → puts ≡ site_rows home (records home (past_of site (story_in session commands))))
     → record { site = traffic.site; rows = puts } ≡ rows_at session.plan (story_in session commands) site
 rows_are session commands world r place site e dbms traffic core channel puts gives =
     let story = story_in session commands in
@@ -197,7 +165,7 @@ rows_are session commands world r place site e dbms traffic core channel puts gi
     let t = there DbmsRecalls world.cores.sites.items.items world.cores.marks.items world.traffic.items session story all place site e in
     let s = all.each place site dbms t.own traffic e core t.marks_are channel in
     let named = s.part.site ∙ s.is in
-    let same = gives s.home s.part.dbms ∙ engine_table session r.has.begins commands site s.home s.is s.declared in
+    let same = gives s.home s.part.dbms ∙ declared_table session.plan story site s.home s.is s.declared in
     λ i. record { site = named i; rows = same i }
 
 -- ---- the session
