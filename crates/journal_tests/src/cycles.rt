@@ -7,7 +7,7 @@ use std::test::Fail;
 use usable_journals::is_usable_coordinator;
 
 // Transactions that committed, each with its sites and tickets, and whether they close no cycle.
-const COMMITS: [(&[(u16, &[(u8, u64)])], bool); 9] = [
+const COMMITS: [(&[(u32, &[(u8, u64)])], bool); 9] = [
     (&[], true),
     // before each other, at two sites
     (&[(7, &[(1, 1), (2, 2)]), (8, &[(1, 2), (2, 1)])], false),
@@ -57,7 +57,7 @@ fn tickets_of(alloc: Global, tickets: &[(u8, u64)]) -> Result<Tickets, Memory> {
     Ok(Tickets::of(items))
 }
 
-fn journal_of(alloc: Global, commits: &[(u16, &[(u8, u64)])]) -> Result<Vec<CoordRecord>, Memory> {
+fn journal_of(alloc: Global, commits: &[(u32, &[(u8, u64)])]) -> Result<Vec<CoordRecord>, Memory> {
     let mut records = Vec::new(alloc);
     for (tx, tickets) in commits {
         let tid = Tid {
