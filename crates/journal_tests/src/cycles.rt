@@ -1,4 +1,6 @@
 //! Commits whose tickets close a cycle, from which no session goes on, and others.
+ghost use Rattle.std.specs.Prelude.{◌≡◌};
+
 use fed_rules::CoordRecord;
 use mdb_base::{Memory, SiteId, SiteTicket, Tickets, Tid, Tx};
 use presumptions::{Participant, Participants, Protocol};
@@ -46,18 +48,30 @@ const COMMITS: [(&[(u32, &[(u8, u64)])], bool); 9] = [
     (&[(7, &[]), (8, &[(1, 1)]), (9, &[])], true),
 ];
 
-fn tickets_of(alloc: Global, tickets: &[(u8, u64)]) -> Result<Tickets, Memory> {
-    let mut items = Vec::new(alloc);
-    for (site, ticket) in tickets {
-        items.push(SiteTicket {
-            site: SiteId(*site),
-            ticket: *ticket,
-        })?;
+// The list of an attempt's tickets rises by their sites.
+fn ticket(site: u8, ticket: u64) -> SiteTicket
+    ensures { result.site.0 ≡ site }
+{
+    SiteTicket {
+        site: SiteId(site),
+        ticket,
     }
-    Ok(Tickets::of(items))
 }
 
-fn journal_of(alloc: Global, commits: &[(u32, &[(u8, u64)])]) -> Result<Vec<CoordRecord>, Memory> {
+// The tickets of a commit, at two sites at most.
+fn tickets_of(alloc: Global, tickets: &[(u8, u64)]) -> Result<Tickets, Fail> {
+    match tickets {
+        [] => Ok(Tickets::of(Vec::new(alloc))),
+        [one] => Ok(Tickets::of(vec![in alloc; ticket(one.0, one.1)]?)),
+        [one, two] if one.0 < two.0 => {
+            let both = vec![in alloc; ticket(one.0, one.1), ticket(two.0, two.1)]?;
+            Ok(Tickets::of(both))
+        }
+        _ => Err(Fail::from("tickets are of two sites that rise")),
+    }
+}
+
+fn journal_of(alloc: Global, commits: &[(u32, &[(u8, u64)])]) -> Result<Vec<CoordRecord>, Fail> {
     let mut records = Vec::new(alloc);
     for (tx, tickets) in commits {
         let tid = Tid {
@@ -70,16 +84,18 @@ fn journal_of(alloc: Global, commits: &[(u32, &[(u8, u64)])]) -> Result<Vec<Coor
     Ok(records)
 }
 
+fn member(site: u8) -> Participant
+    ensures { result.site.0 ≡ site }
+{
+    Participant {
+        site: SiteId(site),
+        protocol: Protocol::Abort,
+    }
+}
+
 // Sites 1 to 3, each with presumed abort.
 fn three_sites(alloc: Global) -> Result<Participants, Memory> {
-    let mut members = Vec::new(alloc);
-    for site in 1..4 {
-        members.push(Participant {
-            site: SiteId(site),
-            protocol: Protocol::Abort,
-        })?;
-    }
-    Ok(Participants::of(members))
+    Ok(Participants::of(vec![in alloc; member(1), member(2), member(3)]?))
 }
 
 #[test]
