@@ -1,9 +1,7 @@
 -- How a session goes on: a site that stands for few lines stands behind a command for at most two more, also where the command fails.
 use Rattle.std.proofs.Common.{true, List, [], ℕ, ◌+◌, ◌≤◌, ◌<◌, ◌^◌, Result, Ok, Err, IfOk, IfErr, length, ap, sym, ◌∙◌, subst, arith}
 use Rattle.mdb_base.specs.declared.names.Tx.{Tx}
-use Rattle.fed_rules.specs.declared.answers.Answer.{Answer}
 use Rattle.fed_rules.specs.declared.events.SiteEvent.{SiteEvent}
-use Rattle.fed_rules.specs.declared.events.SiteEvent.TheVariants as Ev
 use Rattle.fed_rules.specs.declared.events.SiteStep.{SiteStep}
 use Rattle.fed_rules.specs.declared.messages.ToSite.{ToSite}
 use Rattle.fed_rules.specs.declared.scenario.TxLine.{TxLine}
@@ -15,13 +13,16 @@ use Rattle.actor_store.specs.declared.errors.StepErr.{StepErr}
 use Rattle.actor_store.specs.declared.errors.StepErr.TheVariants as Err_is
 use Rattle.site_core.specs.Made.{about}
 use Rattle.site_core.specs.Stands.{Before, StopAt, Within, stopped_past}
-use Rattle.actor_tests.specs.LocalSessions.{IsAbout, IsApart, IsOfLines, IsWithin}
+use Rattle.actor_tests.specs.LocalSessions.{IsAbout, IsApart, IsAskAbout, IsOfLines, IsWithin}
 use Rattle.journal_disk.specs.declared.mem_disk.MemDisk.{MemDisk}
 use Rattle.any_engine.specs.declared.engine.AnyEngine.{AnyEngine}
 use Rattle.any_engine.specs.Stands as Engines
 use Rattle.site_core.specs.Sessions.{mem_seen}
+use Rattle.local_dbms.specs.declared.asks.SiteAsk.{SiteAsk}
+use Rattle.local_dbms.specs.declared.asks.SiteAsk.TheVariants as At
 use Rattle.local_dbms.specs.declared.dbms.LocalDbms.{LocalDbms}
-use Rattle.local_dbms.specs.Stands.{CanGive, Each_site, Fails, IsShort, OwnPrograms, Sends, Serves, Some_site, Stands, own_programs}
+use Rattle.local_dbms.specs.Asks.{CanAsk, site_request}
+use Rattle.local_dbms.specs.Stands.{CanGive, Each_site, Fails, OwnPrograms, Some_site, Stands, Tells, own_programs}
 
 -- a request adds at most one line, and a stop within an event two
 more_lines : (home : Home) (past : SitePast) (r : Request SiteEvent) (n : ℕ) → length past ≤ n → length (past_behind home past r) ≤ n + 2
@@ -63,9 +64,6 @@ module _ (K L : Home → OwnPrograms → SitePast → Type 0) (n : ℕ) (foreign
   is_short : length s.past < 2 ^ 30
   is_short = let le = s.holds.few in omega arith
 
-  pub short : Some_site K IsShort
-  short = record { home = s.home; programs = s.programs; past = s.past; stood = s.stood; holds = is_short }
-
   -- a message about the foreign transaction may be given
   may_give : (message : ToSite) → IsAbout foreign message → CanGive message s.home s.programs s.past
   may_give message (of_tx, attempt) =
@@ -78,8 +76,23 @@ module _ (K L : Home → OwnPrograms → SitePast → Type 0) (n : ℕ) (foreign
         in_range = record { least = least; greatest = greatest; attempts = below };
       }
 
-  pub can_give : (message : ToSite) → IsAbout foreign message → Some_site K (CanGive message)
-  can_give message is = record { home = s.home; programs = s.programs; past = s.past; stood = s.stood; holds = may_give message is }
+  -- so this may be asked
+  may_ask : (ask : SiteAsk) → IsAskAbout foreign ask → CanAsk ask s.home s.programs s.past
+  may_ask (At.Give message) is = may_give message is
+  may_ask (At.Begin tx) is = is_short
+  may_ask (At.Step tx) is = is_short
+  may_ask (At.Commit tx) is = is_short
+  may_ask (At.Abort tx) is = is_short
+  may_ask (At.Fate tx) is = is_short
+  may_ask (At.Ask tid) is = is_short
+  may_ask (At.Drop tid) is = is_short
+  may_ask (At.Halt cut) is = is_short
+  may_ask (At.Trip calls cut) is = is_short
+  may_ask At.Back is = is_short
+  may_ask At.Check is = is_short
+
+  pub can_ask : (ask : SiteAsk) → IsAskAbout foreign ask → Some_site K (CanAsk ask)
+  can_ask ask is = record { home = s.home; programs = s.programs; past = s.past; stood = s.stood; holds = may_ask ask is }
 
   -- it stands for this past, which isn't much longer
   at : (past : SitePast) → length past ≤ n + 2 → L s.home s.programs past → Some_site L (IsWithin (n + 2) foreign)
@@ -96,33 +109,12 @@ module _ (K L : Home → OwnPrograms → SitePast → Type 0) (n : ℕ) (foreign
   failed_on (Submits event) Err_is.Disk (stop, stood, down) = at (stopped_past s.home s.past event stop) (stop_lines s.home s.past event stop n s.holds.few) stood
   failed_on (Declines answer) Err_is.Disk none = absurd none
 
-  -- behind an answer to a request, or its failure
-  pub served_on : (result : Result Answer StepErr) (asked : Home → OwnPrograms → SitePast → Request SiteEvent)
-      → IfOk result (λ answer. Each_site K (λ home programs past. IsShort home programs past → Serves L answer home programs past (asked home programs past)))
-      → IfErr result (λ why. Each_site K (λ home programs past. IsShort home programs past → Fails L why home programs past (asked home programs past)))
+  -- behind an answer to what is asked, or its failure
+  pub asked_on : (result : Result SiteStep StepErr) (ask : SiteAsk) → IsAskAbout foreign ask
+      → IfOk result (λ step. Each_site K (λ home programs past. CanAsk ask home programs past → Tells L step home programs past (site_request ask home programs past)))
+      → IfErr result (λ why. Each_site K (λ home programs past. CanAsk ask home programs past → Fails L why home programs past (site_request ask home programs past)))
       → Some_site L (IsWithin (n + 2) foreign)
-  served_on (Ok answer) asked served failed =
-      let r : Request SiteEvent = asked s.home s.programs s.past in
-      at (past_behind s.home s.past r) (more_lines s.home s.past r n s.holds.few) (served s.home s.programs s.past s.stood is_short).next
-  served_on (Err why) asked served failed = failed_on (asked s.home s.programs s.past) why (failed s.home s.programs s.past s.stood is_short)
-
-  -- behind an answer to an event with what is sent, or its failure
-  pub sent_on : (result : Result SiteStep StepErr) (event : SiteEvent) (P : Home → OwnPrograms → SitePast → Type 0) → P s.home s.programs s.past
-      → IfOk result (λ step. Each_site K (λ home programs past. P home programs past → Sends L step home programs past event))
-      → IfErr result (λ why. Each_site K (λ home programs past. P home programs past → Fails L why home programs past (Submits event)))
-      → Some_site L (IsWithin (n + 2) foreign)
-  sent_on (Ok step) event P may served failed =
-      at (past_behind s.home s.past (Submits event)) (more_lines s.home s.past (Submits event) n s.holds.few) (served s.home s.programs s.past s.stood may).next
-  sent_on (Err why) event P may served failed = failed_on (Submits event) why (failed s.home s.programs s.past s.stood may)
-
-  pub asked_on : (result : Result SiteStep StepErr) (event : SiteEvent)
-      → IfOk result (λ step. Each_site K (λ home programs past. IsShort home programs past → Sends L step home programs past event))
-      → IfErr result (λ why. Each_site K (λ home programs past. IsShort home programs past → Fails L why home programs past (Submits event)))
-      → Some_site L (IsWithin (n + 2) foreign)
-  asked_on result event = sent_on result event IsShort is_short
-
-  pub given_on : (result : Result SiteStep StepErr) (message : ToSite) → IsAbout foreign message
-      → IfOk result (λ step. Each_site K (λ home programs past. CanGive message home programs past → Sends L step home programs past (Ev.Give message)))
-      → IfErr result (λ why. Each_site K (λ home programs past. CanGive message home programs past → Fails L why home programs past (Submits (Ev.Give message))))
-      → Some_site L (IsWithin (n + 2) foreign)
-  given_on result message is = sent_on result (Ev.Give message) (CanGive message) (may_give message is)
+  asked_on (Ok step) ask is served failed =
+      let r : Request SiteEvent = site_request ask s.home s.programs s.past in
+      at (past_behind s.home s.past r) (more_lines s.home s.past r n s.holds.few) (served s.home s.programs s.past s.stood (may_ask ask is)).next
+  asked_on (Err why) ask is served failed = failed_on (site_request ask s.home s.programs s.past) why (failed s.home s.programs s.past s.stood (may_ask ask is))

@@ -15,12 +15,19 @@ use Rattle.journal_disk.specs.MemDisk.{mem_image, mem_size}
 use Rattle.site_core.specs.Found.{IsFoundOn}
 use Rattle.site_core.specs.Made.{about}
 use Rattle.site_core.specs.Sessions.{mem_seen}
+use Rattle.local_dbms.specs.declared.asks.SiteAsk.{SiteAsk}
+use Rattle.local_dbms.specs.declared.asks.SiteAsk.TheVariants as At
 use Rattle.local_dbms.specs.declared.dbms.LocalDbms.{LocalDbms}
 use Rattle.local_dbms.specs.Stands.{OwnPrograms, Some_site, Stands, own_programs}
 
 -- a message about one of the first two attempts of the transaction
 abbrev pub IsAbout : Tx → ToSite → Type 0
 IsAbout tx message = ((about message).tx ≡ tx) × ((about message).attempt ≤ 1)
+
+-- a message that is given is
+abbrev pub IsAskAbout : Tx → SiteAsk → Type 0
+IsAskAbout tx (At.Give message) = IsAbout tx message
+IsAskAbout tx ask = Unit {0}
 
 -- the transaction, a number in its range, is none of these of site 1
 pub record IsApart (foreign : Tx) (transactions : List TxLine) : Type 0 where

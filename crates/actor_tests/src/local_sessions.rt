@@ -4,7 +4,7 @@ ghost use Rattle.journal_disk.specs.MemDisk.{mem_size};
 ghost use Rattle.mdb_base.specs.Words.{Each};
 ghost use Rattle.local_dbms.specs.Stands.{IsNamed};
 ghost use Rattle.site_core.specs.Made.{about};
-ghost use Rattle.actor_tests.specs.LocalSessions.{IsAbout, IsApart, IsOfLines};
+ghost use Rattle.actor_tests.specs.LocalSessions.{IsAbout, IsApart, IsAskAbout, IsOfLines};
 
 mod again;
 mod faults;
@@ -14,7 +14,7 @@ use crate::answers::is_cut;
 use any_engine::AnyEngine;
 use fed_rules::{Answer, Command, Line, SiteLine, SiteStep, ToSite, TxLine};
 use journal_disk::{Disk, MemDisk};
-use local_dbms::{LocalDbms, StepErr};
+use local_dbms::{LocalDbms, SiteAsk, StepErr};
 use mdb_base::{Act, Engine, Key, PlainAct, Program, Put, Puts, SiteId, Step, Tid, Tx};
 use presumptions::{Decision, Protocol};
 use std::alloc::Global;
@@ -118,14 +118,28 @@ fn message(tx: Tx, place: u32) -> Option<ToSite>
     }
 }
 
-// A step with this answer that sends nothing.
-fn alone(answer: Result<Answer, StepErr>) -> Result<SiteStep, StepErr> {
-    match answer {
-        Ok(answer) => Ok(SiteStep {
-            answer,
-            sends: None,
-        }),
-        Err(why) => Err(why),
+// What a command asks of the site; messages are about this transaction. It asks nothing where another actor would hear of it, or where
+// there is no such message.
+fn asked(foreign: Tx, command: Command) -> Option<SiteAsk>
+    ensures { IfSome result (IsAskAbout foreign) }
+{
+    match command {
+        Command::Begin(tx) => Some(SiteAsk::Begin(tx)),
+        Command::Step(tx) => Some(SiteAsk::Step(tx)),
+        Command::Commit(tx) => Some(SiteAsk::Commit(tx)),
+        Command::Abort(tx) => Some(SiteAsk::Abort(tx)),
+        Command::Fate(tx) => Some(SiteAsk::Fate(tx)),
+        Command::Halt { cut, .. } => Some(SiteAsk::Halt { cut }),
+        Command::Trip { calls, cut, .. } => Some(SiteAsk::Trip { calls, cut }),
+        Command::Back { .. } => Some(SiteAsk::Back),
+        Command::Check { .. } => Some(SiteAsk::Check),
+        Command::Drop { tid, .. } => Some(SiteAsk::Drop(tid)),
+        Command::Ask { tid, .. } => Some(SiteAsk::Ask(tid)),
+        Command::Give { place, .. } => match message(foreign, place) {
+            Some(message) => Some(SiteAsk::Give(message)),
+            None => None,
+        },
+        _ => None,
     }
 }
 
@@ -143,23 +157,12 @@ fn asks(
     requires stood { IsOfLines lines foreign dbms.old disk.old }
     ensures { IsOfLines (lines + 2) foreign dbms.new disk.new }
 {
-    match command {
-        Command::Begin(tx) => alone(dbms.begin(alloc, disk, tx)),
-        Command::Step(tx) => alone(dbms.step(alloc, disk, tx)),
-        Command::Commit(tx) => alone(dbms.commit(alloc, disk, tx)),
-        Command::Abort(tx) => alone(dbms.abort(alloc, disk, tx)),
-        Command::Fate(tx) => alone(dbms.fate(alloc, disk, tx)),
-        Command::Halt { cut, .. } => alone(dbms.halt(alloc, disk, cut)),
-        Command::Trip { calls, cut, .. } => alone(dbms.trip(alloc, disk, calls, cut)),
-        Command::Back { .. } => alone(dbms.back(alloc, disk)),
-        Command::Check { .. } => alone(dbms.check(alloc, disk)),
-        Command::Drop { tid, .. } => alone(dbms.drop(alloc, disk, tid)),
-        Command::Ask { tid, .. } => dbms.ask(alloc, disk, tid),
-        Command::Give { place, .. } => match message(foreign, place) {
-            Some(message) => dbms.give(alloc, disk, message),
-            None => alone(Ok(Answer::None)),
-        },
-        _ => alone(Ok(Answer::None)),
+    match asked(foreign, command) {
+        Some(ask) => dbms.ask(alloc, disk, ask),
+        None => Ok(SiteStep {
+            answer: Answer::None,
+            sends: None,
+        }),
     }
 }
 

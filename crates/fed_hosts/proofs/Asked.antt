@@ -8,6 +8,7 @@ use Rattle.fed_rules.specs.declared.answers.Answer.TheVariants as Say
 use Rattle.fed_rules.specs.declared.commands.Stamped.{Stamped}
 use Rattle.fed_rules.specs.declared.events.SiteEvent.{SiteEvent}
 use Rattle.fed_rules.specs.declared.events.SiteEvent.TheVariants as Ev
+use Rattle.fed_rules.specs.declared.events.SiteStep.{SiteStep}
 use Rattle.fed_rules.specs.Requests.{Request, Submits, Declines, attempt, unless_begun}
 use Rattle.fed_rules.specs.Site.{site_line}
 use Rattle.fed_rules.specs.SiteCommands as Rule
@@ -16,7 +17,9 @@ use Rattle.fed_rules.specs.SitePast.{SitePast, attempts_of, begins_tx}
 use Rattle.fed_rules.specs.SiteRecords.{Home}
 use Rattle.site_core.specs.Made.{IsGoingOn}
 use Rattle.site_core.proofs.RuleWalks.{line_event}
-use Rattle.local_dbms.specs.Stands.{OwnPrograms, Serves}
+use Rattle.local_dbms.specs.declared.asks.SiteAsk.{SiteAsk}
+use Rattle.local_dbms.specs.Asks.{CanAsk, site_request}
+use Rattle.local_dbms.specs.Stands.{IsShort, OwnPrograms, Serves, Tells}
 use Rattle.local_dbms.proofs.Bounds.{made_small}
 use Rattle.local_dbms.proofs.Small.{IsBegunBy}
 use Rattle.fed_hosts.specs.declared.site_actor.Told.{Told}
@@ -30,7 +33,7 @@ use Rattle.fed_hosts.specs.Keeps.{most_begun}
 use Rattle.host_laws.specs.Plans.{SitePlan, most_lines}
 use Rattle.fed_hosts.specs.Serving.{IsLastBegin, MayBegin}
 use Rattle.host_laws.specs.Turns.{SiteTurn, is_trip, past_of, request_of, sends_of}
-use Rattle.fed_hosts.specs.Verbs.{command_of, rule_of}
+use Rattle.fed_hosts.specs.Verbs.{ask_of, command_of, rule_of}
 use Rattle.fed_hosts.specs.Views.{IsSpent, answer_next}
 use Rattle.fed_hosts.proofs.Own.{BeginsNext, IsSoft, begin_begins, own_begin, own_none, own_soft}
 
@@ -60,6 +63,34 @@ request_is plan past Asks.Step tx = refl
 request_is plan past Asks.Commit tx = refl
 request_is plan past Asks.Abort tx = refl
 request_is plan past Asks.Fate tx = refl
+
+-- it is asked of the local database system, which answers what the rules make of it
+module _ (ask : SiteAsk) (verb : Verb) (tx : Tx) (is : ask ≡ ask_of verb tx) where
+  pub verb_may : (home : Home) (programs : OwnPrograms) (past : SitePast) → IsShort home programs past → CanAsk ask home programs past
+  verb_may home programs past short = subst (λ (a : SiteAsk). CanAsk a home programs past) (sym is) (by_verb verb)
+    where
+      by_verb : (v : Verb) → CanAsk (ask_of v tx) home programs past
+      by_verb Asks.Begin = short
+      by_verb Asks.Step = short
+      by_verb Asks.Commit = short
+      by_verb Asks.Abort = short
+      by_verb Asks.Fate = short
+
+  pub verb_request : (home : Home) (programs : OwnPrograms) (past : SitePast) → site_request ask home programs past ≡ own_request (rule_of verb) home (programs tx) past tx
+  verb_request home programs past = ap (λ (a : SiteAsk). site_request a home programs past) is ∙ by_verb verb
+    where
+      by_verb : (v : Verb) → site_request (ask_of v tx) home programs past ≡ own_request (rule_of v) home (programs tx) past tx
+      by_verb Asks.Begin = refl
+      by_verb Asks.Step = refl
+      by_verb Asks.Commit = refl
+      by_verb Asks.Abort = refl
+      by_verb Asks.Fate = refl
+
+  pub verb_serves : (K : Home → OwnPrograms → SitePast → Type 0) (step : SiteStep) (home : Home) (programs : OwnPrograms) (past : SitePast) → Tells K step home programs past (site_request ask home programs past)
+      → Serves K step.answer home programs past (own_request (rule_of verb) home (programs tx) past tx)
+  verb_serves K step home programs past told =
+      let same = verb_request home programs past in
+      record { said = told.said ∙ ap (λ (q : Request SiteEvent). answer_to home past q) same; next = subst (λ (q : Request SiteEvent). K home programs (past_behind home past q)) same told.next }
 
 begin_is : (verb : Verb) → rule_of verb ≡ Rule.Begin → verb ≡ Asks.Begin
 begin_is Asks.Begin e = refl

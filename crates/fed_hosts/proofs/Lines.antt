@@ -14,8 +14,10 @@ use Rattle.fed_rules.specs.SiteRecords.{Home}
 use Rattle.fed_messages.specs.declared.Envelope.{Envelope}
 use Rattle.fed_messages.specs.declared.Packet.{Packet}
 use Rattle.journal_disk.specs.Disk.{Seen}
+use Rattle.local_dbms.specs.declared.asks.SiteAsk.{SiteAsk}
 use Rattle.local_dbms.specs.declared.dbms.LocalDbms.{LocalDbms}
-use Rattle.local_dbms.specs.Stands.{IsShort, Some_site, Stands}
+use Rattle.local_dbms.specs.Asks.{CanAsk}
+use Rattle.local_dbms.specs.Stands.{IsShort, OwnPrograms, Some_site, Stands}
 use Rattle.scripted_link.specs.declared.inlet.Inlet.{Inlet}
 use Rattle.scripted_link.specs.Inlets.{empty_count, taken}
 use Rattle.scripted_link.specs.Outlets.{HasMovedOn}
@@ -66,13 +68,12 @@ module _ {E D : Type 0} (stands : E → Start → List EngineLine → Type 0) (t
       let few = past_short k.plan k.turns in
       omega (arith, short, few)
 
-  -- and the site stands for it
-  pub stood_short : (packets : List Packet) (actor : SiteActor E D) → KeepsFor stands tells seen sites rings false packets actor
-      → Some_site (Stands stands tells actor.dbms (seen actor.disk)) IsShort
-  stood_short packets actor k =
-      let short = k.kept.logged.short in
-      let few = past_short k.plan k.turns in
-      record { home = k.plan.home; programs = k.plan.programs; past = past_of k.plan k.turns; stood = k.standing; holds = omega (arith, short, few) }
+  -- and the site stands for it, and may be asked what asks no more
+  pub stood_asked : (packets : List Packet) (actor : SiteActor E D) (ask : SiteAsk) → ((home : Home) (programs : OwnPrograms) (past : SitePast) → IsShort home programs past → CanAsk ask home programs past)
+      → KeepsFor stands tells seen sites rings false packets actor → Some_site (Stands stands tells actor.dbms (seen actor.disk)) (CanAsk ask)
+  stood_asked packets actor ask may k =
+      let past = past_of k.plan k.turns in
+      record { home = k.plan.home; programs = k.plan.programs; past = past; stood = k.standing; holds = may k.plan.home k.plan.programs past (short_past false packets actor k) }
 
   -- what is seen of the host is of the lines that it keeps
   abbrev pub keeps_seen : (failed shown : Bool) (actor : SiteActor E D) (k : Keeps stands tells seen sites rings failed actor) → IsSeen sites k.plan k.turns (view_of actor shown)

@@ -5,7 +5,6 @@ use Rattle.mdb_base.specs.declared.names.Tid.{Tid}
 use Rattle.mdb_base.specs.Counts.{HasCauseOf}
 use Rattle.mdb_base.specs.Words.{found}
 use Rattle.mdb_base.proofs.JoinLaws.{length-append}
-use Rattle.fed_rules.specs.declared.answers.Answer.{Answer}
 use Rattle.fed_rules.specs.declared.commands.Command.TheVariants as Cmd
 use Rattle.fed_rules.specs.declared.events.SiteEvent.TheVariants as Ev
 use Rattle.fed_rules.specs.declared.events.SiteStep.{SiteStep}
@@ -20,7 +19,7 @@ use Rattle.journal_disk.specs.Disk.{Seen}
 use Rattle.local_dbms.specs.declared.dbms.LocalDbms.{LocalDbms}
 use Rattle.actor_store.specs.declared.errors.StepErr.{StepErr}
 use Rattle.actor_store.specs.declared.errors.StepErr.TheVariants as Err_is
-use Rattle.local_dbms.specs.Stands.{Fails, OwnPrograms, Sends, Serves, Stands}
+use Rattle.local_dbms.specs.Stands.{Fails, OwnPrograms, Stands, Tells}
 use Rattle.site_core.specs.Made.{about}
 use Rattle.scripted_link.specs.declared.inlet.Inlet.{Inlet}
 use Rattle.scripted_link.specs.Inlets.{inlet_ring, returned, taken}
@@ -144,19 +143,19 @@ module _ {E D : Type 0} (stands : E → Start → List EngineLine → Type 0) (t
   module _ (old : SiteActor E D) (dbms : LocalDbms E) (disk : D) (new : SiteActor E D) (few : length old.lines.items < most_lines) (faults : (seen disk).faults ≡ (seen old.disk).faults)
       (beside : IsBesideLines (record old { dbms = dbms; disk = disk }) new) (moved_on : HasMovedOn new.ends.outlet) where
     -- the line of a start
-    pub start_line : (k : Keeps stands tells seen sites rings false old) (answer : Answer)
-        → Serves (Stands stands tells dbms (seen disk)) answer k.plan.home k.plan.programs (past_of k.plan k.turns) (Submits Ev.Back)
-        → Carries stands tells (seen disk) (record old { dbms = dbms; disk = disk }) new (record { command = Cmd.Back old.ends.site.0; answer = answer; send = None; after = 0 })
-        → HasLine stands tells seen sites rings old new (record { command = Cmd.Back old.ends.site.0; answer = answer; send = None; after = 0 })
-    start_line k answer serves carries =
-        let told : Told = record { command = Cmd.Back old.ends.site.0; answer = answer; send = None; after = 0 } in
+    pub start_line : (k : Keeps stands tells seen sites rings false old) (step : SiteStep)
+        → Tells (Stands stands tells dbms (seen disk)) step k.plan.home k.plan.programs (past_of k.plan k.turns) (Submits Ev.Back)
+        → Carries stands tells (seen disk) (record old { dbms = dbms; disk = disk }) new (record { command = Cmd.Back old.ends.site.0; answer = step.answer; send = None; after = 0 })
+        → HasLine stands tells seen sites rings old new (record { command = Cmd.Back old.ends.site.0; answer = step.answer; send = None; after = 0 })
+    start_line k step serves carries =
+        let told : Told = record { command = Cmd.Back old.ends.site.0; answer = step.answer; send = None; after = 0 } in
         let none = (line_back k.plan.home (past_of k.plan k.turns)).0 in
         let is = event_told k.plan k.turns told None Ev.Back (ap (λ (s : SiteId). s.0) k.planned.site, refl) refl (omega arith) refl k.standing.core.holds.made tt serves.said (sym none) in
         line_carried stands tells seen sites rings old dbms disk new k.plan k.turns told None (taken old.ends.inlet) k.planned k.kept few is refl serves.next refl k.heard (faults ∙ k.faults) carries beside moved_on
 
     -- the line of an inquiry
     pub ask_line : (k : Keeps stands tells seen sites rings false old) (tid : Tid) (step : SiteStep)
-        → Sends (Stands stands tells dbms (seen disk)) step k.plan.home k.plan.programs (past_of k.plan k.turns) (Ev.Ask tid)
+        → Tells (Stands stands tells dbms (seen disk)) step k.plan.home k.plan.programs (past_of k.plan k.turns) (Submits (Ev.Ask tid))
         → Carries stands tells (seen disk) (record old { dbms = dbms; disk = disk }) new (record { command = Cmd.Ask old.ends.site tid; answer = step.answer; send = step.sends; after = 0 })
         → HasLine stands tells seen sites rings old new (record { command = Cmd.Ask old.ends.site tid; answer = step.answer; send = step.sends; after = 0 })
     ask_line k tid step sends carries =
@@ -166,7 +165,7 @@ module _ {E D : Type 0} (stands : E → Start → List EngineLine → Type 0) (t
 
     -- the line of a message that is taken
     pub give_line : (packet : Packet) (h : HoldsPacket stands tells seen sites rings packet old) (envelope : Envelope ToSite) (step : SiteStep)
-        → Bears h.keeps.plan.programs packet envelope → Sends (Stands stands tells dbms (seen disk)) step h.keeps.plan.home h.keeps.plan.programs (past_of h.keeps.plan h.keeps.turns) (Ev.Give envelope.message)
+        → Bears h.keeps.plan.programs packet envelope → Tells (Stands stands tells dbms (seen disk)) step h.keeps.plan.home h.keeps.plan.programs (past_of h.keeps.plan h.keeps.turns) (Submits (Ev.Give envelope.message))
         → Carries stands tells (seen disk) (record old { dbms = dbms; disk = disk }) new (record { command = Cmd.Give old.ends.site envelope.index; answer = step.answer; send = step.sends; after = envelope.stamp })
         → HasLine stands tells seen sites rings old new (record { command = Cmd.Give old.ends.site envelope.index; answer = step.answer; send = step.sends; after = envelope.stamp })
     give_line packet h envelope step bears sends carries =

@@ -1,49 +1,21 @@
 //! What a client asks of a site's host.
 ghost use Rattle.std.specs.Prelude.{◌≡◌, ◌≤◌, Bool, false, IfOk, IfErr, IsErrOf, IsFalse, IsSome, IsTrue};
-ghost use Rattle.mdb_base.specs.Counts.{HasCauseOf};
-ghost use Rattle.fed_rules.specs.SiteCommands.{own_request};
 ghost use Rattle.journal_disk.specs.Disk.{Seen};
-ghost use Rattle.local_dbms.specs.Stands.{Each_site, Fails, IsShort, Serves, Some_site, Stands};
+ghost use Rattle.local_dbms.specs.Stands.{Each_site, Stands};
 ghost use Rattle.fed_hosts.specs.Keeps.{Keeps};
 ghost use Rattle.fed_hosts.specs.Serving.{HasFailed, IsLastBegin, MayBegin};
-ghost use Rattle.fed_hosts.specs.Verbs.{command_of, rule_of};
+ghost use Rattle.fed_hosts.specs.Verbs.{command_of};
 ghost use Rattle.fed_hosts.specs.Views.{HasServed, view_of};
 
 use crate::answers::again;
 use crate::plans::Plan;
 use crate::site_actor::{MOST_BEGUN, MOST_LINES, SiteActor, Told};
-use crate::verbs::{Verb, command, is_begin};
+use crate::verbs::{Verb, command, is_begin, site_ask};
 use engine_contract::LocalEngine;
 use fed_rules::Answer;
 use journal_disk::Disk;
 use local_dbms::{LocalDbms, StepErr};
 use mdb_base::Tx;
-use std::alloc::Global;
-
-/// The local database system carries out what is asked of one of its transactions.
-fn ask<E: LocalEngine, D: Disk>(
-    alloc: Global,
-    dbms: &mut LocalDbms<E>,
-    disk: &mut D,
-    verb: Verb,
-    tx: Tx,
-) -> Result<Answer, StepErr>
-    requires told { IsTrue D.tells }
-    requires stood { Some_site (Stands E.stands D.tells dbms.old (D.seen disk.old)) IsShort }
-    ensures served { IfOk result (λ answer. Each_site (Stands E.stands D.tells dbms.old (D.seen disk.old)) (λ home programs past. IsShort home programs past
-        → Serves (Stands E.stands D.tells dbms.new (D.seen disk.new)) answer home programs past (own_request (rule_of verb) home (programs tx) past tx))) }
-    ensures failed { IfErr result (λ why. Each_site (Stands E.stands D.tells dbms.old (D.seen disk.old)) (λ home programs past. IsShort home programs past
-        → Fails (Stands E.stands D.tells dbms.new (D.seen disk.new)) why home programs past (own_request (rule_of verb) home (programs tx) past tx))) }
-    ensures cause { HasCauseOf StepErr.Disk (D.seen disk.old).faults (D.seen disk.new).faults result }
-{
-    match verb {
-        Verb::Begin => dbms.begin(alloc, disk, tx),
-        Verb::Step => dbms.step(alloc, disk, tx),
-        Verb::Commit => dbms.commit(alloc, disk, tx),
-        Verb::Abort => dbms.abort(alloc, disk, tx),
-        Verb::Fate => dbms.fate(alloc, disk, tx),
-    }
-}
 
 /// Whether what is asked of one of the site's own transactions would begin an attempt, of which a host begins no more.
 fn is_spent<E: LocalEngine>(dbms: &LocalDbms<E>, verb: Verb, tx: Tx) -> bool
@@ -85,11 +57,12 @@ impl<E: LocalEngine, D: Disk> SiteActor<E, D> {
         if self.reserve().is_err() {
             return Err(StepErr::Memory);
         }
-        let answer = ask(self.alloc, &mut self.dbms, &mut self.disk, verb, tx)?;
-        let copy = again(&answer);
+        let ask = site_ask(verb, tx);
+        let step = self.dbms.ask(self.alloc, &mut self.disk, ask)?;
+        let copy = again(&step.answer);
         self.carry(Told {
             command: command(verb, tx),
-            answer,
+            answer: step.answer,
             send: None,
             after: 0,
         });

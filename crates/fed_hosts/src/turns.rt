@@ -17,7 +17,7 @@ use engine_contract::LocalEngine;
 use fed_messages::{Packet, decode_to};
 use fed_rules::{Command, ToSite};
 use journal_disk::Disk;
-use local_dbms::StepErr;
+use local_dbms::{SiteAsk, StepErr};
 use mdb_base::Tid;
 
 /// Stamps of messages are below this; a packet with any other is left aside.
@@ -76,12 +76,12 @@ impl<E: LocalEngine, D: Disk> SiteActor<E, D> {
         ensures failed { IfErr result (HasFailed E.stands D.tells D.seen N.sites N.rings self.new) }
         ensures same { IfErr result (λ _. view_of self.new false ≡ view_of self.old false) }
     {
-        let answer = self.dbms.back(self.alloc, &mut self.disk)?;
+        let step = self.dbms.ask(self.alloc, &mut self.disk, SiteAsk::Back)?;
         self.carry(Told {
             command: Command::Back {
                 actor: self.ends.site.0,
             },
-            answer,
+            answer: step.answer,
             send: None,
             after: 0,
         });
@@ -112,7 +112,8 @@ impl<E: LocalEngine, D: Disk> SiteActor<E, D> {
         if envelope.stamp >= MOST_STAMP || self.dbms.is_own(about(&envelope.message).tx) {
             return Ok(false);
         }
-        match self.dbms.give(self.alloc, &mut self.disk, envelope.message) {
+        let ask = SiteAsk::Give(envelope.message);
+        match self.dbms.ask(self.alloc, &mut self.disk, ask) {
             Ok(step) => {
                 self.carry(Told {
                     command: Command::Give {
@@ -155,7 +156,8 @@ impl<E: LocalEngine, D: Disk> SiteActor<E, D> {
             return Ok(false);
         }
         let tid = doubts.at(0).tid;
-        let step = self.dbms.ask(self.alloc, &mut self.disk, tid)?;
+        let ask = SiteAsk::Ask(tid);
+        let step = self.dbms.ask(self.alloc, &mut self.disk, ask)?;
         self.idle = 0;
         self.carry(Told {
             command: Command::Ask {

@@ -1,8 +1,9 @@
 //! What a client asks of a local transaction.
 ghost use Rattle.std.specs.Prelude.{◌≡◌, ◌≢◌, MatchBool};
-ghost use Rattle.fed_hosts.specs.Verbs.{command_of};
+ghost use Rattle.fed_hosts.specs.Verbs.{ask_of, command_of};
 
 use fed_rules::Command;
+use local_dbms::SiteAsk;
 use mdb_base::Tx;
 
 /// What a client asks of a local transaction.
@@ -25,6 +26,19 @@ pub(crate) fn command(verb: Verb, tx: Tx) -> Command
         Verb::Commit => Command::Commit(tx),
         Verb::Abort => Command::Abort(tx),
         Verb::Fate => Command::Fate(tx),
+    }
+}
+
+/// What the local database system is asked then.
+pub(crate) fn site_ask(verb: Verb, tx: Tx) -> SiteAsk
+    ensures { result ≡ ask_of verb tx }
+{
+    match verb {
+        Verb::Begin => SiteAsk::Begin(tx),
+        Verb::Step => SiteAsk::Step(tx),
+        Verb::Commit => SiteAsk::Commit(tx),
+        Verb::Abort => SiteAsk::Abort(tx),
+        Verb::Fate => SiteAsk::Fate(tx),
     }
 }
 

@@ -34,13 +34,13 @@ use Rattle.fed_rules.specs.Sessions.{Session}
 use Rattle.fed_rules.specs.SiteRecords.{Home}
 use Rattle.fed_rules.specs.Story.{Story, Happened, Nowhere, at_coordinator, coord_past, coord_requested, happens, on_actor, on_attempt, on_fate, on_give, on_go, on_local, on_site, on_take, past_of, requested, sent_from, sent_to}
 use Rattle.coord_tables.specs.Terms.{Terms}
+use Rattle.local_dbms.specs.declared.asks.SiteAsk.{SiteAsk}
+use Rattle.local_dbms.specs.declared.asks.SiteAsk.TheVariants as At
+use Rattle.local_dbms.specs.Asks.{site_request}
 use Rattle.local_dbms.specs.Found.{found_programs}
 use Rattle.local_dbms.specs.Stands.{OwnPrograms, own_programs, program_at}
 use Rattle.session_routes.specs.Routes.{place_in}
 use Rattle.fed_world.specs.Beginnings.{either, journal_at, programs_at, with_found}
-use Rattle.fed_world.specs.SiteAsks.{site_request}
-use Rattle.fed_world.specs.declared.site_asks.SiteAsk.{SiteAsk}
-use Rattle.fed_world.specs.declared.site_asks.SiteAsk.TheVariants as At
 use Rattle.fed_world.specs.declared.asks.Asked.{Asked}
 use Rattle.fed_world.specs.declared.asks.Asked.TheVariants.{Coordinator, Nobody}
 use Rattle.fed_world.specs.declared.asks.CoordAsk.{CoordAsk}

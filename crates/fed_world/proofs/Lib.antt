@@ -25,7 +25,6 @@ pub mod MarkedSeats
 pub mod NewWorlds
 pub mod Nowhere
 pub mod Pairs
-pub mod Quiet
 pub mod Recalled
 pub mod ReopenedWorlds
 pub mod Reopens
@@ -34,7 +33,6 @@ pub mod RightLines
 pub mod Routed
 pub mod SeatHears
 pub mod SeatLines
-pub mod SeatTold
 pub mod SeatsByPlace
 pub mod SeatsKept
 pub mod SeenDisks

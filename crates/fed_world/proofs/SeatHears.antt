@@ -15,7 +15,7 @@ use Rattle.fed_rules.specs.SitePast.{SitePast, journal}
 use Rattle.fed_rules.specs.SiteRecords.{Home}
 use Rattle.fed_rules.specs.Story.{place_from}
 use Rattle.site_core.specs.Made.{IsGoingOn}
-use Rattle.local_dbms.specs.Stands.{OwnPrograms}
+use Rattle.local_dbms.specs.Stands.{OwnPrograms, Tells, sends_of}
 use Rattle.session_report.specs.declared.marks.Mark.{Mark}
 use Rattle.session_report.specs.declared.marks.Marks.{Marks}
 use Rattle.session_report.specs.Marks.{kept_marks, new_marks}
@@ -23,8 +23,7 @@ use Rattle.session_report.proofs.LineMarks.{line_marks_one}
 use Rattle.fed_world.proofs.MarkedSeats.{going_marked}
 use Rattle.session_routes.specs.declared.traffic.Traffic.{Traffic}
 use Rattle.fed_world.specs.declared.site_asks.Heard.{Heard}
-use Rattle.fed_world.specs.SiteAsks.{sends_of}
-use Rattle.fed_world.specs.SeatParts.{PartAt, PartHears, Tells}
+use Rattle.fed_world.specs.SeatParts.{PartAt, PartHears}
 
 -- a journal that didn't grow adds no mark
 none_new : (js : List SiteRecord) → new_marks (length js) js ≡ []

@@ -21,13 +21,12 @@ use Rattle.fed_rules.specs.Story.{Story, Told, Happened, past_of, requested, sen
 use Rattle.fed_rules.specs.Sessions.{Session}
 use Rattle.any_engine.specs.declared.engine.AnyEngine.{AnyEngine}
 use Rattle.local_dbms.specs.declared.dbms.LocalDbms.{LocalDbms}
-use Rattle.local_dbms.specs.Stands.{OwnPrograms}
+use Rattle.local_dbms.specs.Stands.{OwnPrograms, sends_of}
 use Rattle.session_report.specs.declared.marks.Marks.{Marks}
 use Rattle.session_report.specs.Marks.{kept_marks}
 use Rattle.session_routes.specs.declared.traffic.Traffic.{Traffic}
 use Rattle.session_routes.specs.Posting.{message_to}
 use Rattle.session_routes.proofs.Posts.{get_other, get_put, length_set}
-use Rattle.fed_world.specs.SiteAsks.{sends_of}
 use Rattle.fed_world.specs.SeatParts.{PartAt}
 use Rattle.fed_world.specs.Seats.{OfDbms, SiteAt, SitesAt}
 use Rattle.fed_world.specs.Beginnings.{programs_at, first_marks}

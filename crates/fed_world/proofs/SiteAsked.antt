@@ -1,4 +1,4 @@
--- A site that a command asks something may be told it.
+-- A site that a command asks something may be asked it.
 use Rattle.std.proofs.Common.{◌≡◌, ℕ, ◌<◌, ◌≤◌, ◌+◌, ◌^◌, Some, List, length, arith}
 use Rattle.mdb_base.specs.Words.{Each}
 use Rattle.field_bytes.specs.Fields.{IsTid}
@@ -8,9 +8,9 @@ use Rattle.fed_rules.specs.Scenarios.{home_of}
 use Rattle.fed_rules.specs.SiteRecords.{Home}
 use Rattle.fed_rules.specs.Story.{coord_past, past_of, story_in}
 use Rattle.fed_rules.specs.Sessions.{Session}
-use Rattle.fed_world.specs.declared.site_asks.SiteAsk.{SiteAsk}
-use Rattle.fed_world.specs.declared.site_asks.SiteAsk.TheVariants as At
-use Rattle.fed_world.specs.SiteAsks.{CanTell}
+use Rattle.local_dbms.specs.declared.asks.SiteAsk.{SiteAsk}
+use Rattle.local_dbms.specs.declared.asks.SiteAsk.TheVariants as At
+use Rattle.local_dbms.specs.Asks.{CanAsk}
 use Rattle.fed_world.specs.Asks.{WasSent}
 use Rattle.fed_world.specs.Worlds.{HasRoom}
 use Rattle.fed_world.proofs.SessionRuns.{messages_foreign, past_short}
@@ -19,14 +19,14 @@ use Rattle.fed_world.specs.Beginnings.{programs_at, Begins, made_up}
 less_than : (a b c : ℕ) → a ≤ b → b < c → a < c
 less_than a b c le lt = omega (arith, le, lt)
 
-pub can_tell : (ask : SiteAsk) (session : Session) (commands : List Command) (home : Home) → Begins session → Each IsTid (begun_tids (coord_past (story_in session commands))) → home_of session.plan home.site ≡ Some home
-    → WasSent ask home.site (story_in session commands) → HasRoom session commands → CanTell ask home (programs_at session home.site) (past_of home.site (story_in session commands))
-can_tell ask session commands home begins begun declared sent room = by_ask ask sent
+pub can_ask : (ask : SiteAsk) (session : Session) (commands : List Command) (home : Home) → Begins session → Each IsTid (begun_tids (coord_past (story_in session commands))) → home_of session.plan home.site ≡ Some home
+    → WasSent ask home.site (story_in session commands) → HasRoom session commands → CanAsk ask home (programs_at session home.site) (past_of home.site (story_in session commands))
+can_ask ask session commands home begins begun declared sent room = by_ask ask sent
   where
     short : length (past_of home.site (story_in session commands)) < 2 ^ 30
     short = less_than (length (past_of home.site (story_in session commands))) (made_up session + length commands) (2 ^ 30) (past_short session commands home.site) room
 
-    by_ask : (a : SiteAsk) → WasSent a home.site (story_in session commands) → CanTell a home (programs_at session home.site) (past_of home.site (story_in session commands))
+    by_ask : (a : SiteAsk) → WasSent a home.site (story_in session commands) → CanAsk a home (programs_at session home.site) (past_of home.site (story_in session commands))
     by_ask (At.Give message) sent =
         let law = messages_foreign session begins commands home declared begun message sent in
         record { short = short; foreign = law.foreign; in_range = law.in_range }

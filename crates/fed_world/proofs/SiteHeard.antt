@@ -31,14 +31,14 @@ use Rattle.conservative_take.specs.declared.any_policy.AnyPolicy.{AnyPolicy}
 use Rattle.rules_laws.proofs.SendsRise.{sites_rise}
 use Rattle.global_manager.specs.declared.manager.GlobalManager.{GlobalManager}
 use Rattle.global_manager.specs.Stands as Manager
+use Rattle.local_dbms.specs.declared.asks.SiteAsk.{SiteAsk}
 use Rattle.local_dbms.specs.declared.dbms.LocalDbms.{LocalDbms}
+use Rattle.local_dbms.specs.Asks.{CanAsk, site_request}
 use Rattle.local_dbms.specs.Stands as Dbms
-use Rattle.local_dbms.specs.Stands.{OwnPrograms}
+use Rattle.local_dbms.specs.Stands.{OwnPrograms, sends_of}
 use Rattle.session_report.specs.declared.marks.Marks.{Marks}
 use Rattle.session_routes.specs.declared.traffic.Traffic.{Traffic}
 use Rattle.fed_world.specs.declared.site_asks.Heard.{Heard}
-use Rattle.fed_world.specs.declared.site_asks.SiteAsk.{SiteAsk}
-use Rattle.fed_world.specs.SiteAsks.{CanTell, sends_of, site_request}
 use Rattle.fed_world.specs.SeatParts.{PartAt, PartFails, PartHears}
 use Rattle.fed_world.proofs.SeatLines.{Frame, sites_hear}
 use Rattle.session_routes.proofs.Posts.{get_put}
@@ -49,7 +49,7 @@ use Rattle.fed_world.specs.Worlds.{ActorBroke, ActorsStand, AreDisks, DbmsStands
 use Rattle.fed_world.proofs.Disks.{on_other, on_own, on_put, put_disks, seen_at}
 use Rattle.fed_world.proofs.Growing.{few_behind, few_commands, numbers_fit, site_sends_from, site_sends_to}
 use Rattle.fed_world.proofs.SeatsKept.{channel_named, seat_of, site_in_range, sites_put, sites_same}
-use Rattle.fed_world.proofs.SiteAsked.{can_tell}
+use Rattle.fed_world.proofs.SiteAsked.{can_ask}
 use Rattle.fed_world.specs.Beginnings.{programs_at, Begins, first_marks}
 
 -- a site's line stays away from the coordinator
@@ -269,16 +269,16 @@ module _ (tells : Bool) (world : World) (disks : List Seen) (session : Session) 
         (first_marks session asks.home) (sent_to asks.home.site (story_in session commands)) (sent_from asks.home.site (story_in session commands))
     own_part = part_at place asks.home dbms own channel old asks.at asks.declared read.core read.mark read.message own_disk
 
-    may_tell : Begins session → HasRoom session commands → CanTell ask asks.home (programs_at session asks.home.site) (past_of asks.home.site (story_in session commands))
-    may_tell begins room = can_tell ask session commands asks.home begins stand.actors.coordinator.holds.core.holds.sound.in_range asks.declared asks.sent room
+    may_ask : Begins session → HasRoom session commands → CanAsk ask asks.home (programs_at session asks.home.site) (past_of asks.home.site (story_in session commands))
+    may_ask begins room = can_ask ask session commands asks.home begins stand.actors.coordinator.holds.core.holds.sound.in_range asks.declared asks.sent room
 
-    pub may_hear : Begins session → HasRoom session commands → Dbms.Some_site (Dbms.Stands Engines.Stands tells dbms old) (CanTell ask)
+    pub may_hear : Begins session → HasRoom session commands → Dbms.Some_site (Dbms.Stands Engines.Stands tells dbms old) (CanAsk ask)
     may_hear begins room = record {
       home = asks.home;
       programs = programs_at session asks.home.site;
       past = past_of asks.home.site (story_in session commands);
       stood = own_part.dbms;
-      holds = may_tell begins room;
+      holds = may_ask begins room;
     }
 
     module _ (new : Seen) (now : List Seen) (next : World) (core : LocalDbms AnyEngine) (kept : Marks) (traffic : Traffic) (is : now ≡ slice_set disks channel.site.0 new) (put : IsPut world next place core kept traffic) (begins : Begins session) (room : HasRoom session commands) where
@@ -286,21 +286,21 @@ module _ (tells : Bool) (world : World) (disks : List Seen) (session : Session) 
       behind_is = is ∙ ap (λ (z : SiteId). slice_set disks z.0 new) named
 
       pub hears_from : (heard : Heard)
-          → Dbms.Each_site (Dbms.Stands Engines.Stands tells dbms old) (λ home programs past. CanTell ask home programs past → (first : List Mark) (to : List ToSite) (from : List FromSite) → PartAt (Dbms.Stands Engines.Stands tells dbms old) own channel home programs past first to from
+          → Dbms.Each_site (Dbms.Stands Engines.Stands tells dbms old) (λ home programs past. CanAsk ask home programs past → (first : List Mark) (to : List ToSite) (from : List FromSite) → PartAt (Dbms.Stands Engines.Stands tells dbms old) own channel home programs past first to from
           → PartHears (Dbms.Stands Engines.Stands tells core new) heard kept traffic home programs past first to from (site_request ask home programs past))
           → IsHeard tells next now heard command session commands
       hears_from heard served =
           site_hears place ask command asks old new own_disk now next heard core kept traffic behind_is put
-          (served asks.home (programs_at session asks.home.site) (past_of asks.home.site (story_in session commands)) own_part.dbms (may_tell begins room) _ _ _ own_part)
+          (served asks.home (programs_at session asks.home.site) (past_of asks.home.site (story_in session commands)) own_part.dbms (may_ask begins room) _ _ _ own_part)
 
       pub fails_from : (why : StepErr) (told : WorldErr) → told ≡ error_of channel.site.0 why
-          → Dbms.Each_site (Dbms.Stands Engines.Stands tells dbms old) (λ home programs past. CanTell ask home programs past → (first : List Mark) (to : List ToSite) (from : List FromSite) → PartAt (Dbms.Stands Engines.Stands tells dbms old) own channel home programs past first to from
+          → Dbms.Each_site (Dbms.Stands Engines.Stands tells dbms old) (λ home programs past. CanAsk ask home programs past → (first : List Mark) (to : List ToSite) (from : List FromSite) → PartAt (Dbms.Stands Engines.Stands tells dbms old) own channel home programs past first to from
           → PartFails (Dbms.Stands Engines.Stands tells core new) why kept traffic home programs past first to from (site_request ask home programs past))
           → IsUnheard tells told next now command session commands
       fails_from why told same failed =
           subst (λ (e : WorldErr). IsUnheard tells e next now command session commands) (sym (same ∙ ap (λ (z : SiteId). error_of z.0 why) named))
           (site_fails place ask command asks old new own_disk why now next core kept traffic behind_is put
-          (failed asks.home (programs_at session asks.home.site) (past_of asks.home.site (story_in session commands)) own_part.dbms (may_tell begins room) _ _ _ own_part))
+          (failed asks.home (programs_at session asks.home.site) (past_of asks.home.site (story_in session commands)) own_part.dbms (may_ask begins room) _ _ _ own_part))
 
 -- what indexing read
 pub is_read : {D : Type 0} (seen : D → Seen) (tells : Bool) (world : World) (disks : List D) (session : Session) (commands : List Command) (place : ℕ) (ask : SiteAsk) (command : Command) (dbms : LocalDbms AnyEngine) (own : Marks) (channel : Traffic) (disk : D)

@@ -16,15 +16,15 @@ use Rattle.fed_rules.specs.Sessions.{Session}
 use Rattle.fed_rules.specs.SiteRecords.{Home}
 use Rattle.fed_rules.specs.Story.{Story, Nowhere, coord_past, coord_requested, happens, past_of, requested, sent_to}
 use Rattle.coord_tables.specs.Terms.{Terms}
+use Rattle.local_dbms.specs.declared.asks.SiteAsk.{SiteAsk}
+use Rattle.local_dbms.specs.declared.asks.SiteAsk.TheVariants as At
+use Rattle.local_dbms.specs.Asks.{site_request}
 use Rattle.local_dbms.specs.Stands.{OwnPrograms}
 use Rattle.fed_world.specs.Beginnings.{programs_at}
-use Rattle.fed_world.specs.SiteAsks.{site_request}
 use Rattle.fed_world.specs.declared.asks.Asked.{Asked}
 use Rattle.fed_world.specs.declared.asks.Asked.TheVariants.{Site, Coordinator, Nobody}
 use Rattle.fed_world.specs.declared.asks.CoordAsk.{CoordAsk}
 use Rattle.fed_world.specs.declared.asks.CoordAsk.TheVariants as Coord
-use Rattle.fed_world.specs.declared.site_asks.SiteAsk.{SiteAsk}
-use Rattle.fed_world.specs.declared.site_asks.SiteAsk.TheVariants as At
 
 -- what the coordinator makes of it
 abbrev pub coord_request : CoordAsk → Terms → OwnPrograms → CoordPast → Request CoordEvent

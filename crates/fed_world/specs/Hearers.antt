@@ -6,9 +6,9 @@ use Rattle.fed_rules.specs.declared.messages.FromSite.{FromSite}
 use Rattle.fed_rules.specs.declared.messages.ToSite.{ToSite}
 use Rattle.fed_rules.specs.declared.scenario.Scenario.{Scenario}
 use Rattle.fed_rules.specs.Scenarios.{local_site, sites}
+use Rattle.local_dbms.specs.declared.asks.SiteAsk.{SiteAsk}
+use Rattle.local_dbms.specs.declared.asks.SiteAsk.TheVariants as At
 use Rattle.session_routes.specs.Routes.{place_in}
-use Rattle.fed_world.specs.declared.site_asks.SiteAsk.{SiteAsk}
-use Rattle.fed_world.specs.declared.site_asks.SiteAsk.TheVariants as At
 use Rattle.fed_world.specs.declared.asks.Asked.{Asked}
 use Rattle.fed_world.specs.declared.asks.Asked.TheVariants.{Site, Coordinator, Nobody}
 use Rattle.fed_world.specs.declared.asks.CoordAsk.{CoordAsk}

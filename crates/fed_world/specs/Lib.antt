@@ -10,7 +10,6 @@ pub mod Reopening
 pub mod Reporting
 pub mod SettingUp
 pub mod Worlds
-pub mod SiteAsks
 pub mod SeatParts
 pub mod Seats
 pub mod FewCommands

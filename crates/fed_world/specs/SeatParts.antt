@@ -1,7 +1,6 @@
 -- What a world keeps of one site: its local database system, the marks of its records, and its messages.
-use Rattle.std.specs.Prelude.{◌≡◌, List, ◌++◌, length, option_to_list}
+use Rattle.std.specs.Prelude.{◌≡◌, List, ◌++◌, length}
 use Rattle.fed_rules.specs.declared.events.SiteEvent.{SiteEvent}
-use Rattle.fed_rules.specs.declared.events.SiteStep.{SiteStep}
 use Rattle.fed_rules.specs.declared.messages.FromSite.{FromSite}
 use Rattle.fed_rules.specs.declared.messages.ToSite.{ToSite}
 use Rattle.fed_rules.specs.Requests.{Request}
@@ -10,19 +9,12 @@ use Rattle.fed_rules.specs.SitePast.{SitePast}
 use Rattle.fed_rules.specs.SiteRecords.{Home}
 use Rattle.fed_rules.specs.Story.{place_from}
 use Rattle.actor_store.specs.declared.errors.StepErr.{StepErr}
-use Rattle.local_dbms.specs.Stands.{Fails, OwnPrograms}
+use Rattle.local_dbms.specs.Stands.{Fails, OwnPrograms, sends_of}
 use Rattle.session_report.specs.declared.marks.Mark.{Mark}
 use Rattle.session_report.specs.declared.marks.Marks.{Marks}
 use Rattle.session_report.specs.Marks.{kept_marks}
 use Rattle.fed_world.specs.declared.site_asks.Heard.{Heard}
 use Rattle.session_routes.specs.declared.traffic.Traffic.{Traffic}
-use Rattle.fed_world.specs.SiteAsks.{sends_of}
-
--- the answer to a request of a site with what is sent, and what it leaves
-pub record Tells (K : Home → OwnPrograms → SitePast → Type 0) (step : SiteStep) (home : Home) (programs : OwnPrograms) (past : SitePast) (r : Request SiteEvent) : Type 0 where
-  pub said : step.answer ≡ answer_to home past r
-  pub sent : option_to_list step.sends ≡ sends_of home past r
-  pub next : K home programs (past_behind home past r)
 
 -- the site stands for its past, the marks are those of its records behind the first ones, and these are its messages
 pub record PartAt (K : Home → OwnPrograms → SitePast → Type 0) (own : Marks) (traffic : Traffic) (home : Home) (programs : OwnPrograms) (past : SitePast) (first : List Mark) (sent : List ToSite) (back : List FromSite) : Type 0 where

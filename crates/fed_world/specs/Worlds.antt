@@ -24,6 +24,7 @@ use Rattle.closing_laws.specs.AtRest.{IsAtRest}
 use Rattle.coord_tables.specs.Terms.{Terms}
 use Rattle.global_manager.specs.declared.manager.GlobalManager.{GlobalManager}
 use Rattle.global_manager.specs.Stands as Manager
+use Rattle.local_dbms.specs.declared.asks.SiteAsk.{SiteAsk}
 use Rattle.local_dbms.specs.declared.dbms.LocalDbms.{LocalDbms}
 use Rattle.local_dbms.specs.Stands as Dbms
 use Rattle.local_dbms.specs.Stands.{OwnPrograms}
@@ -34,7 +35,6 @@ use Rattle.fed_world.specs.declared.errors.WorldErr.TheVariants as Err_is
 use Rattle.session_routes.specs.declared.traffic.Traffic.{Traffic}
 use Rattle.fed_world.specs.declared.world.World.{World}
 use Rattle.fed_world.specs.declared.asks.CoordAsk.{CoordAsk}
-use Rattle.fed_world.specs.declared.site_asks.SiteAsk.{SiteAsk}
 use Rattle.fed_world.specs.Asks.{AsksCoordinator, AsksSite, terms_of}
 use Rattle.fed_world.specs.Beginnings.{Begins, IsBlank, Remembers, made_up, programs_at, scenario_of}
 use Rattle.fed_world.specs.Lines.{IsRightIn}

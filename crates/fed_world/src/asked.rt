@@ -7,9 +7,9 @@ ghost use Rattle.fed_world.specs.Hearers.{to_actor, to_fate, to_give, to_local, 
 ghost use Rattle.fed_world.specs.Worlds.{EachStory, Recalls};
 
 use crate::asks::{Asked, CoordAsk};
-use crate::site_asks::SiteAsk;
 use crate::world::World;
 use fed_rules::Command;
+use local_dbms::SiteAsk;
 use mdb_base::{SiteId, Tx};
 
 impl World {

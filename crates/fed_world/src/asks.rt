@@ -1,6 +1,6 @@
 //! Who hears of a command, and what is asked of the coordinator.
-use crate::site_asks::SiteAsk;
 use fed_rules::FromSite;
+use local_dbms::SiteAsk;
 use mdb_base::{SiteId, Tid, Tx};
 
 /// What is asked of the coordinator.

@@ -6,12 +6,12 @@ ghost use Rattle.fed_world.specs.Worlds.{EachCoordAsk, EachSiteAsk, EachStory, H
 use crate::asks::{Asked, CoordAsk};
 use crate::errors::WorldErr;
 use crate::seats::tell_seat;
-use crate::site_asks::{Heard, SiteAsk};
+use crate::site_asks::Heard;
 use crate::telling::tell_coordinator;
 use crate::world::World;
 use fed_rules::{Answer, Command, Places};
 use journal_disk::Disk;
-use local_dbms::StepErr;
+use local_dbms::{SiteAsk, StepErr};
 use session_routes::{make_room, post};
 use std::alloc::Global;
 

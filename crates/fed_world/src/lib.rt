@@ -14,7 +14,6 @@ mod hearing;
 mod reading;
 mod reopening;
 mod reporting;
-mod seat_telling;
 mod seats;
 mod setting_up;
 mod site_asks;

@@ -5,18 +5,17 @@ ghost use Rattle.any_engine.specs.Stands as Engines;
 ghost use Rattle.fed_rules.specs.declared.messages.FromSite.{FromSite as TheFrom};
 ghost use Rattle.fed_rules.specs.declared.messages.ToSite.{ToSite as TheTo};
 ghost use Rattle.fed_rules.specs.Story.{place_from};
+ghost use Rattle.local_dbms.specs.Asks.{CanAsk, can_send, site_request};
 ghost use Rattle.local_dbms.specs.Stands as Dbms;
 ghost use Rattle.local_dbms.specs.Stands.{Each_site, Some_site};
-ghost use Rattle.fed_world.specs.SiteAsks.{CanTell, can_send, site_request};
 ghost use Rattle.session_report.specs.declared.marks.Mark.{Mark as TheMark};
 ghost use Rattle.fed_world.specs.SeatParts.{PartAt, PartFails, PartHears};
 
-use crate::seat_telling::tell_site;
-use crate::site_asks::{Heard, SiteAsk};
+use crate::site_asks::Heard;
 use any_engine::AnyEngine;
 use fed_rules::{FromSite, Place, Places};
 use journal_disk::Disk;
-use local_dbms::{LocalDbms, StepErr};
+use local_dbms::{LocalDbms, SiteAsk, StepErr};
 use mdb_base::Memory;
 use session_report::Marks;
 use session_routes::Traffic;
@@ -74,12 +73,12 @@ pub fn tell_seat<D: Disk>(
     ask: SiteAsk,
 ) -> Result<Heard, StepErr>
     requires told { IsTrue D.tells }
-    requires stood { Some_site (Dbms.Stands Engines.Stands D.tells dbms.old (D.seen disk.old)) (CanTell ask) }
+    requires stood { Some_site (Dbms.Stands Engines.Stands D.tells dbms.old (D.seen disk.old)) (CanAsk ask) }
     requires few { length traffic.old.from.items < 2 ^ 32 }
-    ensures served { IfOk result (λ heard. Each_site (Dbms.Stands Engines.Stands D.tells dbms.old (D.seen disk.old)) (λ home programs past. CanTell ask home programs past
+    ensures served { IfOk result (λ heard. Each_site (Dbms.Stands Engines.Stands D.tells dbms.old (D.seen disk.old)) (λ home programs past. CanAsk ask home programs past
         → (first : List TheMark) (to : List TheTo) (from : List TheFrom) → PartAt (Dbms.Stands Engines.Stands D.tells dbms.old (D.seen disk.old)) marks.old traffic.old home programs past first to from
         → PartHears (Dbms.Stands Engines.Stands D.tells dbms.new (D.seen disk.new)) heard marks.new traffic.new home programs past first to from (site_request ask home programs past))) }
-    ensures failed { IfErr result (λ why. Each_site (Dbms.Stands Engines.Stands D.tells dbms.old (D.seen disk.old)) (λ home programs past. CanTell ask home programs past
+    ensures failed { IfErr result (λ why. Each_site (Dbms.Stands Engines.Stands D.tells dbms.old (D.seen disk.old)) (λ home programs past. CanAsk ask home programs past
         → (first : List TheMark) (to : List TheTo) (from : List TheFrom) → PartAt (Dbms.Stands Engines.Stands D.tells dbms.old (D.seen disk.old)) marks.old traffic.old home programs past first to from
         → PartFails (Dbms.Stands Engines.Stands D.tells dbms.new (D.seen disk.new)) why marks.new traffic.new home programs past first to from (site_request ask home programs past))) }
     ensures cause { HasCauseOf StepErr.Disk (D.seen disk.old).faults (D.seen disk.new).faults result }
@@ -91,7 +90,7 @@ pub fn tell_seat<D: Disk>(
         return Err(StepErr::Memory);
     };
     let before = dbms.core().records().len();
-    let step = tell_site(dbms, alloc, disk, ask)?;
+    let step = dbms.ask(alloc, disk, ask)?;
     marks.note_line(before, dbms.core().records());
     Ok(Heard {
         answer: step.answer,

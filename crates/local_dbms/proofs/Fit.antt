@@ -28,7 +28,7 @@ use Rattle.site_core.specs.Made.{about, was_begun, was_global}
 use Rattle.site_core.specs.Stands.{Fails as CoreFails, IsIn, IsUp, Remembers, Steps}
 use Rattle.site_core.specs.Steps.{CanStep}
 use Rattle.local_dbms.specs.declared.dbms.LocalDbms.{LocalDbms}
-use Rattle.local_dbms.specs.Stands.{CanGive, CanHand, Fails, FitsPrograms, OwnPrograms, Owns, Recalls, Sends, Stands}
+use Rattle.local_dbms.specs.Stands.{CanGive, CanSubmit, Fails, FitsPrograms, OwnPrograms, Owns, Recalls, Stands, Tells}
 use Rattle.local_dbms.proofs.Bounds.{epoch_fits, number_fits, published_fits}
 use Rattle.local_dbms.proofs.Owned.{begun_below, few_begun, foreign_apart, next_unbegun, own_apart, owned_more, owned_stopped}
 
@@ -41,7 +41,7 @@ up_past stands core home past m up = from core.store.standing m.standing m.stand
   from Failing e u = cc
 
 module _ {E : Type 0} (stands : E → Start → List EngineLine → Type 0) (dbms : LocalDbms E) (home : Home) (programs : OwnPrograms) (past : SitePast) (r : Recalls stands dbms home programs past) where
-  pub can_begin : (tx : Tx) → IsSome (programs tx) → attempts_of past tx < 32 → length past < 2 ^ 30 → CanHand (Ev.Begin (attempt tx (attempts_of past tx))) home programs past
+  pub can_begin : (tx : Tx) → IsSome (programs tx) → attempts_of past tx < 32 → length past < 2 ^ 30 → CanSubmit (Ev.Begin (attempt tx (attempts_of past tx))) home programs past
   can_begin tx own few short = (
     record {
       apart = own_apart programs past tx r.owns.owned own;
@@ -52,7 +52,7 @@ module _ {E : Type 0} (stands : E → Start → List EngineLine → Type 0) (dbm
     (own, refl, few),
   )
 
-  pub can_fate : (tx : Tx) → IsSome (programs tx) → CanHand (Ev.Fate tx) home programs past
+  pub can_fate : (tx : Tx) → IsSome (programs tx) → CanSubmit (Ev.Fate tx) home programs past
   can_fate tx own = (own_apart programs past tx r.owns.owned own, own)
 
   module _ (tx : Tx) (tid : Tid) (own : IsSome (programs tx)) (runs : live_of_tx home past tx ≡ Some tid) where
@@ -62,10 +62,10 @@ module _ {E : Type 0} (stands : E → Start → List EngineLine → Type 0) (dbm
     live_apart : was_global tid.tx past ≡ false
     live_apart = own_apart programs past tid.tx r.owns.owned own_live
 
-    pub can_abort : CanHand (Ev.Abort tid) home programs past
+    pub can_abort : CanSubmit (Ev.Abort tid) home programs past
     can_abort = (live_apart, own_live)
 
-    pub can_act : (act : PlainAct) (run : Run) (steps : List Step) → live home past tid ≡ Some run → done run < length steps → length steps ≤ 32 → CanHand (Ev.Act tid act) home programs past
+    pub can_act : (act : PlainAct) (run : Run) (steps : List Step) → live home past tid ≡ Some run → done run < length steps → length steps ≤ 32 → CanSubmit (Ev.Act tid act) home programs past
     can_act act run steps lives less few = (record { apart = live_apart; few = small }, own_live) where
       small : (now : Run) → live home past tid ≡ Some now → length now.acts < 32
       small now e =
@@ -73,7 +73,7 @@ module _ {E : Type 0} (stands : E → Start → List EngineLine → Type 0) (dbm
           let acts : length run.acts < 32 = omega arith in
           subst (λ (x : Run). length x.acts < 32) same acts
 
-    pub can_commit : (run : Run) → live home past tid ≡ Some run → is_down past ≡ false → length past < 2 ^ 30 → CanHand (Ev.Commit tid) home programs past
+    pub can_commit : (run : Run) → live home past tid ≡ Some run → is_down past ≡ false → length past < 2 ^ 30 → CanSubmit (Ev.Commit tid) home programs past
     can_commit run lives up short = (record { apart = live_apart; in_range = in_range; fits = number_fits home past r.core.made short }, own_live) where
       begun : (was_begun tid past ≡ true) ⊎ (was_global tid.tx past ≡ true) → was_begun tid past ≡ true
       begun (inl e) = e
@@ -87,11 +87,11 @@ module _ {E : Type 0} (stands : E → Start → List EngineLine → Type 0) (dbm
           let named = r.owns.named tid.tx own_live in
           record { least = named.0; greatest = named.1; attempts = omega arith }
 
-  pub can_back : length past < 2 ^ 30 → CanHand Ev.Back home programs past
+  pub can_back : length past < 2 ^ 30 → CanSubmit Ev.Back home programs past
   can_back short = (epoch_fits home past r.core.made short, tt)
 
   -- a message about no transaction of the site's own
-  pub can_give : (message : ToSite) → CanGive message home programs past → CanHand (Ev.Give message) home programs past
+  pub can_give : (message : ToSite) → CanGive message home programs past → CanSubmit (Ev.Give message) home programs past
   can_give message g = (taken message g.foreign g.in_range, g.foreign) where
     taken : (m : ToSite) → programs (about m).tx ≡ None → IsTid (about m) → CanStep (Ev.Give m) home past
     taken (To.Take tid epoch n) foreign in_range = record { apart = foreign_apart programs past tid.tx r.owns.owned foreign; fits = published_fits home past r.core.made g.short }
@@ -108,8 +108,8 @@ recalled stands tells dbms disk home programs past s = record { core = s.core.ho
 module _ {E : Type 0} (stands : E → Start → List EngineLine → Type 0) (tells : Bool) (old : LocalDbms E) (core : SiteCore E) (disk : Seen) (home : Home) (programs : OwnPrograms) (past : SitePast)
     (event : SiteEvent) (owns : Owns old.programs.items programs past) (fits : FitsPrograms programs past event) where
   -- the core answered
-  pub sends : (step : SiteStep) → Steps stands tells step core disk home past (site_line home past event) → Sends (Stands stands tells (record old { core = core }) disk) step home programs past event
-  sends step s = record {
+  pub tells_of : (step : SiteStep) → Steps stands tells step core disk home past (site_line home past event) → Tells (Stands stands tells (record old { core = core }) disk) step home programs past (Submits event)
+  tells_of step s = record {
     said = s.answer;
     sent = s.sends;
     next = record { core = s.stood; owns = record { held = owns.held; named = owns.named; owned = owned_more home programs past event owns.owned fits } };

@@ -1,8 +1,10 @@
 pub mod Asked
+pub mod Asking
 pub mod Bounds
 pub mod Fit
 pub mod FoundLaws
 pub mod Lines
 pub mod OpenedOwned
 pub mod Owned
+pub mod Quiet
 pub mod Small

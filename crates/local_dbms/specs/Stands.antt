@@ -11,6 +11,7 @@ use Rattle.fed_rules.specs.declared.answers.Answer.{Answer}
 use Rattle.fed_rules.specs.declared.events.SiteEvent.{SiteEvent}
 use Rattle.fed_rules.specs.declared.events.SiteEvent.TheVariants as Ev
 use Rattle.fed_rules.specs.declared.events.SiteStep.{SiteStep}
+use Rattle.fed_rules.specs.declared.messages.FromSite.{FromSite}
 use Rattle.fed_rules.specs.declared.messages.ToSite.{ToSite}
 use Rattle.fed_rules.specs.declared.scenario.SiteLine.{SiteLine}
 use Rattle.fed_rules.specs.declared.scenario.TxLine.{TxLine}
@@ -26,7 +27,7 @@ use Rattle.journal_disk.specs.Disk.{Seen}
 use Rattle.actor_store.specs.declared.errors.StepErr.{StepErr}
 use Rattle.actor_store.specs.declared.errors.StepErr.TheVariants as Err_is
 use Rattle.fed_rules.specs.Site_of.{about}
-use Rattle.site_core.specs.Stands.{Holds, Stands as CoreStands, StopAt, behind, stopped_past}
+use Rattle.site_core.specs.Stands.{Holds, Stands as CoreStands, StopAt, stopped_past}
 use Rattle.site_core.specs.Steps.{CanStep}
 use Rattle.local_dbms.specs.declared.dbms.LocalDbms.{LocalDbms}
 use Rattle.local_dbms.specs.declared.requests.Request.{Request as Asked}
@@ -88,11 +89,16 @@ pub record Serves (K : Home → OwnPrograms → SitePast → Type 0) (answer : A
   pub said : answer ≡ answer_to home past r
   pub next : K home programs (past_behind home past r)
 
--- the answer to an event with what is sent, and what it leaves
-pub record Sends (K : Home → OwnPrograms → SitePast → Type 0) (step : SiteStep) (home : Home) (programs : OwnPrograms) (past : SitePast) (event : SiteEvent) : Type 0 where
-  pub said : step.answer ≡ (site_line home past event).answer
-  pub sent : option_to_list step.sends ≡ (site_line home past event).sends
-  pub next : K home programs (behind home past event)
+-- what a request sends
+abbrev pub sends_of : Home → SitePast → Request SiteEvent → List FromSite
+sends_of home past (Submits event) = (site_line home past event).sends
+sends_of home past (Declines answer) = []
+
+-- the answer to a request with what is sent, and what it leaves
+pub record Tells (K : Home → OwnPrograms → SitePast → Type 0) (step : SiteStep) (home : Home) (programs : OwnPrograms) (past : SitePast) (r : Request SiteEvent) : Type 0 where
+  pub said : step.answer ≡ answer_to home past r
+  pub sent : option_to_list step.sends ≡ sends_of home past r
+  pub next : K home programs (past_behind home past r)
 
 -- a request that isn't answered: want of memory changes nothing, and behind a failed disk call, which no declined one makes, the site is
 -- down, as a stop within the event leaves it
@@ -103,12 +109,12 @@ Fails K Err_is.Disk home programs past (Submits event) =
 Fails K Err_is.Disk home programs past (Declines answer) = ⊥
 
 -- the event may come to the core, and fits the programs
-abbrev pub CanHand : SiteEvent → Home → OwnPrograms → SitePast → Type 0
-CanHand event home programs past = CanStep event home past × FitsPrograms programs past event
+abbrev pub CanSubmit : SiteEvent → Home → OwnPrograms → SitePast → Type 0
+CanSubmit event home programs past = CanStep event home past × FitsPrograms programs past event
 
 -- what is asked may be served
 abbrev pub CanServe : Asked → Home → OwnPrograms → SitePast → Type 0
-CanServe (Asked_is.Submits event) home programs past = CanHand event home programs past
+CanServe (Asked_is.Submits event) home programs past = CanSubmit event home programs past
 CanServe (Asked_is.Declines answer) home programs past = Unit {0}
 
 -- the request of the rules

@@ -1,11 +1,10 @@
-//! A local database system, and how it hands events to its core.
-ghost use Rattle.std.specs.Prelude.{◌≡◌, ◌≤◌, [], Bool, length, IsTrue, IfOk, IfErr, IsErrOf};
+//! A local database system, and with what it begins.
+ghost use Rattle.std.specs.Prelude.{◌≡◌, ◌≤◌, [], Bool, length, IsTrue, IfOk, IsErrOf};
 ghost use Rattle.std.specs.Option.{option_copied};
 ghost use Rattle.mdb_base.specs.Counts.{HasCauseOf};
 ghost use Rattle.mdb_base.specs.Words.{Each};
 ghost use Rattle.record_fields.specs.Named.{IsSite};
 ghost use Rattle.fed_rules.specs.Disk.{empty_disk};
-ghost use Rattle.fed_rules.specs.Requests.{Submits};
 ghost use Rattle.fed_rules.specs.SitePast.{set_up_calls};
 ghost use Rattle.journal_disk.specs.Disk.{Seen};
 ghost use Rattle.engine_contract.specs.Calls.{fresh_start};
@@ -17,13 +16,12 @@ ghost use Rattle.local_dbms.specs.Found.{found_programs};
 ghost use Rattle.site_core.specs.Found.{IsFoundOn, SomeJournal};
 ghost use Rattle.site_core.specs.Stands.{Holds, IsOfKind, Stands as CoreStands};
 ghost use Rattle.site_core.specs.Store.{SomeStop};
-ghost use Rattle.local_dbms.specs.Stands.{CanHand, CanServe, Each_site, Fails, IsNamed, Recalls, Sends, Serves, Some_site, Stands, home_from, own_programs, program_in, request_of};
+ghost use Rattle.local_dbms.specs.Stands.{Each_site, IsNamed, Recalls, Stands, home_from, own_programs, program_in};
 
 use crate::found::programs_found;
 use crate::programs::programs_of;
-use crate::requests::Request;
 use engine_contract::LocalEngine;
-use fed_rules::{Answer, SiteEvent, SiteLine, SiteStep, TxLine};
+use fed_rules::{SiteLine, TxLine};
 use journal_disk::Disk;
 use mdb_base::{Memory, Program, Puts, Tx};
 use site_core::{SiteCore, StepErr};
@@ -104,48 +102,6 @@ impl<E: LocalEngine> LocalDbms<E> {
         match self.programs.get(tx.0 as usize) {
             Some(Some(program)) => Some(program),
             _ => None,
-        }
-    }
-
-    /// The core answers an event that may come there and fits the programs.
-    pub(crate) fn hand<D: Disk>(
-        &mut self,
-        alloc: Global,
-        disk: &mut D,
-        event: SiteEvent,
-    ) -> Result<SiteStep, StepErr>
-        requires told { IsTrue D.tells }
-        requires may { Some_site (Stands E.stands D.tells self.old (D.seen disk.old)) (CanHand event) }
-        ensures served { IfOk result (λ step. Each_site (Stands E.stands D.tells self.old (D.seen disk.old))
-            (λ home programs past. CanHand event home programs past → Sends (Stands E.stands D.tells self.new (D.seen disk.new)) step home programs past event)) }
-        ensures failed { IfErr result (λ why. Each_site (Stands E.stands D.tells self.old (D.seen disk.old))
-            (λ home programs past. CanHand event home programs past → Fails (Stands E.stands D.tells self.new (D.seen disk.new)) why home programs past (Submits event))) }
-        ensures cause { HasCauseOf StepErr.Disk (D.seen disk.old).faults (D.seen disk.new).faults result }
-    {
-        self.core.step(alloc, disk, event)
-    }
-
-    /// Serves a request: the core answers its event.
-    pub(crate) fn serve<D: Disk>(
-        &mut self,
-        alloc: Global,
-        disk: &mut D,
-        request: Request,
-    ) -> Result<Answer, StepErr>
-        requires told { IsTrue D.tells }
-        requires may { Some_site (Stands E.stands D.tells self.old (D.seen disk.old)) (CanServe request) }
-        ensures served { IfOk result (λ answer. Each_site (Stands E.stands D.tells self.old (D.seen disk.old))
-            (λ home programs past. CanServe request home programs past → Serves (Stands E.stands D.tells self.new (D.seen disk.new)) answer home programs past (request_of request))) }
-        ensures failed { IfErr result (λ why. Each_site (Stands E.stands D.tells self.old (D.seen disk.old))
-            (λ home programs past. CanServe request home programs past → Fails (Stands E.stands D.tells self.new (D.seen disk.new)) why home programs past (request_of request))) }
-        ensures cause { HasCauseOf StepErr.Disk (D.seen disk.old).faults (D.seen disk.new).faults result }
-    {
-        match request {
-            Request::Declines(answer) => Ok(answer),
-            Request::Submits(event) => match self.hand(alloc, disk, event) {
-                Ok(step) => Ok(step.answer),
-                Err(why) => Err(why),
-            },
         }
     }
 }

@@ -2,13 +2,13 @@
 //! that are submitted to it by their numbers. A world of several sites and a host behind a lock use it alike.
 #![tactic(auto)]
 
+mod asks;
 mod dbms;
 mod found;
 mod looks;
 mod programs;
 mod requests;
-mod site_commands;
-mod tx_commands;
 
+pub use asks::SiteAsk;
 pub use dbms::LocalDbms;
 pub use site_core::StepErr;

@@ -1,5 +1,5 @@
 -- A step of a core: the line that it answers goes on with a past that events made.
-use Rattle.std.proofs.Common.{◌≡◌, ℕ, Bool, false, true, List, [], ◌∷◌, refl, sym, ap, ◌∙◌, subst}
+use Rattle.std.proofs.Common.{◌≡◌, ℕ, Bool, false, true, List, [], ◌∷◌, Result, Ok, Err, IfOk, IfErr, refl, sym, ap, ◌∙◌, subst}
 use Rattle.fed_rules.specs.declared.events.SiteEvent.{SiteEvent}
 use Rattle.fed_rules.specs.declared.events.SiteEvent.TheVariants as Ev
 use Rattle.fed_rules.specs.declared.messages.ToSite.TheVariants as To
@@ -16,7 +16,7 @@ use Rattle.actor_store.specs.declared.errors.StepErr.TheVariants as Err_is
 use Rattle.site_core.specs.declared.site.SiteCore.{SiteCore}
 use Rattle.site_core.specs.Made.{IsApart, IsGoingOn}
 use Rattle.site_core.specs.Stands.{Answers, Before, Breaks, Carries, Fails, Stands, Steps, StopAt, Within, behind, stopped_past}
-use Rattle.site_core.specs.Steps.{CanStep}
+use Rattle.site_core.specs.Steps.{CanStep, EachPast}
 use Rattle.site_core.proofs.MadeLaws.{made_more}
 use Rattle.site_core.proofs.StopLaws.{trip_is, trip_line}
 
@@ -60,20 +60,32 @@ stopped_made home past event (Within calls cut) made apart =
     let P : SiteHappening → Type 0 = λ t. IsApart (t ∷ past) event in
     made_more home (behind home past (Ev.Trip calls cut)) event (made_more home past (Ev.Trip calls cut) made tt) (subst P (sym (trip_is home past calls cut)) (still_apart past event calls cut apart))
 
-module _ {E : Type 0} (stands : E → Lines.Start → List EngineLine → Type 0) (tells : Bool) where
-  pub steps : (old new : SiteCore E) (step : SiteStep) (disk disk' : Seen) (home : Home) (past : SitePast) (event : SiteEvent) → Stands stands tells old disk home past → CanStep event home past
-      → Answers stands tells step new disk' home past (site_line home past event) → Steps stands tells step new disk' home past (site_line home past event)
-  steps old new step disk disk' home past event k may a = record {
+module _ {E : Type 0} (stands : E → Lines.Start → List EngineLine → Type 0) (tells : Bool) (old new : SiteCore E) (before now : Seen) (event : SiteEvent) where
+  pub steps : (step : SiteStep) (home : Home) (past : SitePast) → Stands stands tells old before home past → CanStep event home past
+      → Answers stands tells step new now home past (site_line home past event) → Steps stands tells step new now home past (site_line home past event)
+  steps step home past k may a = record {
     answer = a.answer;
     sends = a.sends;
     stood = record { holds = record { made = made_more home past event k.holds.made (can_come home past event may); memory = a.carries.memory }; stored = a.carries.stored };
   }
 
-  pub fails : (old new : SiteCore E) (why : StepErr) (disk disk' : Seen) (home : Home) (past : SitePast) (event : SiteEvent) → Stands stands tells old disk home past → CanStep event home past
-      → Breaks stands tells why new disk' home past event → Fails stands tells why new disk' home past event
-  fails old new Err_is.Memory disk disk' home past event k may b = record { holds = record { made = k.holds.made; memory = b.memory }; stored = b.stored }
-  fails old new Err_is.Disk disk disk' home past event k may (at, c, down) = (
+  fails : (why : StepErr) (home : Home) (past : SitePast) → Stands stands tells old before home past → CanStep event home past
+      → Breaks stands tells why new now home past event → Fails stands tells why new now home past event
+  fails Err_is.Memory home past k may b = record { holds = record { made = k.holds.made; memory = b.memory }; stored = b.stored }
+  fails Err_is.Disk home past k may (at, c, down) = (
     at,
     record { holds = record { made = stopped_made home past event at k.holds.made (can_come home past event may); memory = c.memory }; stored = c.stored },
     down,
   )
+
+  pub all_steps : (result : Result SiteStep StepErr)
+      → IfOk result (λ step. EachPast (Stands stands tells old before) (λ home past. CanStep event home past → Answers stands tells step new now home past (site_line home past event)))
+      → IfOk result (λ step. EachPast (Stands stands tells old before) (λ home past. CanStep event home past → Steps stands tells step new now home past (site_line home past event)))
+  all_steps (Ok step) answered = λ home past k may. steps step home past k may (answered home past k may)
+  all_steps (Err why) answered = tt
+
+  pub all_fails : (result : Result SiteStep StepErr)
+      → IfErr result (λ why. EachPast (Stands stands tells old before) (λ home past. CanStep event home past → Breaks stands tells why new now home past event))
+      → IfErr result (λ why. EachPast (Stands stands tells old before) (λ home past. CanStep event home past → Fails stands tells why new now home past event))
+  all_fails (Ok step) broken = tt
+  all_fails (Err why) broken = λ home past k may. fails why home past k may (broken home past k may)

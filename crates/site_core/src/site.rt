@@ -138,7 +138,11 @@ impl<E: LocalEngine> SiteCore<E> {
             (λ home past. CanStep event home past → Fails E.stands D.tells why self.new (D.seen disk.new) home past event)) }
         ensures cause { HasCauseOf StepErr.Disk (D.seen disk.old).faults (D.seen disk.new).faults result }
     {
-        self.answer(alloc, disk, event)
+        match self.store.standing {
+            Standing::Up => self.serve(alloc, disk, event),
+            Standing::Down => self.wait(alloc, disk, event),
+            Standing::Failing => self.wait(alloc, disk, event),
+        }
     }
 
     /// The records that stand on the disk, oldest first: the last Checkpoint that was trimmed to, and those behind it.
@@ -214,28 +218,6 @@ impl<E: LocalEngine> SiteCore<E> {
             (λ home past. is_down past ≡ false → rows ≡ site_rows home (records home past))) }
     {
         self.engine.rows(alloc)
-    }
-
-    /// Answers an event by what the site is: up or down.
-    fn answer<D: Disk>(
-        &mut self,
-        alloc: Global,
-        disk: &mut D,
-        event: SiteEvent,
-    ) -> Result<SiteStep, StepErr>
-        requires told { IsTrue D.tells }
-        requires may { SomePast (Stands E.stands D.tells self.old (D.seen disk.old)) (CanStep event) }
-        ensures answered { IfOk result (λ step. EachPast (Stands E.stands D.tells self.old (D.seen disk.old))
-            (λ home past. CanStep event home past → Answers E.stands D.tells step self.new (D.seen disk.new) home past (site_line home past event))) }
-        ensures failed { IfErr result (λ why. EachPast (Stands E.stands D.tells self.old (D.seen disk.old))
-            (λ home past. CanStep event home past → Breaks E.stands D.tells why self.new (D.seen disk.new) home past event)) }
-        ensures cause { HasCauseOf StepErr.Disk (D.seen disk.old).faults (D.seen disk.new).faults result }
-    {
-        match self.store.standing {
-            Standing::Up => self.serve(alloc, disk, event),
-            Standing::Down => self.wait(alloc, disk, event),
-            Standing::Failing => self.wait(alloc, disk, event),
-        }
     }
 
     /// Answers an event of a site that is up.

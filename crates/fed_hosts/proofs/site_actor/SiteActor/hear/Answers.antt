@@ -38,8 +38,8 @@ returns-then-envelope-ge-MOST_STAMP-clause-keeps g c =
           ∙ sym (w.is_own.ensures k.plan.home k.plan.programs (past_of k.plan k.turns) (recalled stands g.D.Disk.tells old.dbms (g.D.Disk.seen old.disk) k.plan.home k.plan.programs (past_of k.plan k.turns) k.standing)) ∙ w.if-is_own.true)
     ])
 
-pub give-requires-clause-stood : goal.give-requires-clause-stood
-give-requires-clause-stood g c =
+pub ask-requires-clause-stood : goal.ask-requires-clause-stood
+ask-requires-clause-stood g c =
     let h = c.requires.keeps in
     let k = h.keeps in
     let old = c.args.self.now in
@@ -66,9 +66,9 @@ pub carry-requires-clause-ready : goal.carry-requires-clause-ready
 carry-requires-clause-ready g c =
     let k = c.requires.keeps.keeps in
     let old = c.args.self.now in
-    let mid = record old { dbms = c.give.new.self; disk = c.give.new.disk } in
+    let mid = record old { dbms = c.ask.new.self; disk = c.ask.new.disk } in
     let told : Told = record { command = Cmd.Give old.ends.site c.in-Some.envelope.index; answer = c.in-Ok.step.answer; send = c.in-Ok.step.sends; after = c.in-Some.envelope.stamp } in
-    line_ready g.E.LocalEngine.stands g.D.Disk.tells g.D.Disk.seen g.N.Plan.sites g.N.Wires.rings mid k.plan k.turns told (kept_beside old c.give.new.self c.give.new.disk k.plan k.turns k.kept)
+    line_ready g.E.LocalEngine.stands g.D.Disk.tells g.D.Disk.seen g.N.Plan.sites g.N.Wires.rings mid k.plan k.turns told (kept_beside old c.ask.new.self c.ask.new.disk k.plan k.turns k.kept)
     (record { lines = c.requires.room.lines; sent = c.requires.room.sent; outlet = c.requires.room.outlet }) (omega (arith, c.if-envelope-ge-MOST_STAMP.false))
 
 pub carry-requires-clause-last : goal.carry-requires-clause-last
@@ -96,8 +96,8 @@ returns-in-Ok-clause-keeps g c =
     record { in_range = c.in-Some.ensures.in_range; spelled = c.in-Some.ensures.spelled; small = omega (arith, c.if-envelope-ge-MOST_STAMP.false); foreign = foreign } in
     let short = short_past stands tells seen g.N.Plan.sites g.N.Wires.rings false h.before old k in
     let sends = c.in-Ok.ensures.served k.plan.home k.plan.programs past k.standing (record { short = short; foreign = foreign; in_range = about_in_range envelope.message c.in-Some.ensures.in_range.message }) in
-    (give_line stands tells seen g.N.Plan.sites g.N.Wires.rings old c.give.new.self c.give.new.disk c.carry.new.self c.requires.few (clean _ _ c.in-Ok.step c.in-Ok.ensures.cause) c.carry.ensures.beside c.carry.ensures.moved_on c.args.packet h envelope c.in-Ok.step bears sends
-    (c.carry.ensures.carried tells (seen c.give.new.disk))).keeps
+    (give_line stands tells seen g.N.Plan.sites g.N.Wires.rings old c.ask.new.self c.ask.new.disk c.carry.new.self c.requires.few (clean _ _ c.in-Ok.step c.in-Ok.ensures.cause) c.carry.ensures.beside c.carry.ensures.moved_on c.args.packet h envelope c.in-Ok.step bears sends
+    (c.carry.ensures.carried tells (seen c.ask.new.disk))).keeps
 
 pub returns-in_default-clause-takes : goal.returns-in_default-clause-takes
 returns-in_default-clause-takes g c home programs past stood =
@@ -137,8 +137,8 @@ returns-in-Ok-clause-takes g c home programs past' stood =
     record { in_range = c.in-Some.ensures.in_range; spelled = c.in-Some.ensures.spelled; small = omega (arith, c.if-envelope-ge-MOST_STAMP.false); foreign = foreign } in
     let short = short_past stands tells seen g.N.Plan.sites g.N.Wires.rings false h.before old k in
     let sends = c.in-Ok.ensures.served k.plan.home k.plan.programs past k.standing (record { short = short; foreign = foreign; in_range = about_in_range envelope.message c.in-Some.ensures.in_range.message }) in
-    let line = give_line stands tells seen g.N.Plan.sites g.N.Wires.rings old c.give.new.self c.give.new.disk c.carry.new.self c.requires.few (clean _ _ c.in-Ok.step c.in-Ok.ensures.cause) c.carry.ensures.beside c.carry.ensures.moved_on c.args.packet h envelope c.in-Ok.step bears sends
-    (c.carry.ensures.carried tells (seen c.give.new.disk)) in
+    let line = give_line stands tells seen g.N.Plan.sites g.N.Wires.rings old c.ask.new.self c.ask.new.disk c.carry.new.self c.requires.few (clean _ _ c.in-Ok.step c.in-Ok.ensures.cause) c.carry.ensures.beside c.carry.ensures.moved_on c.args.packet h envelope c.in-Ok.step bears sends
+    (c.carry.ensures.carried tells (seen c.ask.new.disk)) in
     record {
       bears = Some envelope;
       read = record {
@@ -153,7 +153,7 @@ returns-in-Ok-clause-takes g c home programs past' stood =
     }
 
 pub returns-in-Ok-clause-others : goal.returns-in-Ok-clause-others
-returns-in-Ok-clause-others g c = view_beside (record c.args.self.now { dbms = c.give.new.self; disk = c.give.new.disk }) c.carry.new.self c.carry.ensures.beside
+returns-in-Ok-clause-others g c = view_beside (record c.args.self.now { dbms = c.ask.new.self; disk = c.ask.new.disk }) c.carry.new.self c.carry.ensures.beside
 
 pub returns-in-Err-clause-failed : goal.returns-in-Err-clause-failed
 returns-in-Err-clause-failed g c =
@@ -174,5 +174,5 @@ returns-in-Err-clause-failed g c =
     record { in_range = c.in-Some.ensures.in_range; spelled = c.in-Some.ensures.spelled; small = omega (arith, c.if-envelope-ge-MOST_STAMP.false); foreign = foreign } in
     let short = short_past stands tells seen sites rings false h.before old k in
     let fails = c.in-Err.ensures.failed k.plan.home k.plan.programs past k.standing (record { short = short; foreign = foreign; in_range = about_in_range envelope.message c.in-Some.ensures.in_range.message }) in
-    put_back stands tells seen sites rings c.args.packet old h c.give.new.self c.give.new.disk c.put_back.new.self c.in-Err.why envelope bears c.put_back.ensures.taken c.put_back.ensures.back c.put_back.ensures.ring fails
+    put_back stands tells seen sites rings c.args.packet old h c.ask.new.self c.ask.new.disk c.put_back.new.self c.in-Err.why envelope bears c.put_back.ensures.taken c.put_back.ensures.back c.put_back.ensures.ring fails
     c.in-Err.ensures.cause

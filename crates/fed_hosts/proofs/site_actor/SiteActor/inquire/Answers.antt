@@ -2,13 +2,14 @@ use Rattle.std.proofs.Common.{ℕ, false, None, IfErr, inl, inr, refl, sym, ap, 
 use Rattle.fed_rules.specs.declared.commands.Command.TheVariants as Cmd
 use Rattle.fed_rules.specs.declared.events.SiteEvent.TheVariants as Ev
 use Rattle.fed_rules.specs.Requests.{Submits}
+use Rattle.local_dbms.specs.declared.asks.SiteAsk.TheVariants as At
 use Rattle.scripted_link.specs.Inlets.{taken}
 use Rattle.fed_hosts.specs.declared.site_actor.Told.{Told}
 use Rattle.fed_hosts.specs.Serving.{HasFailed}
 use Rattle.host_laws.specs.Turns.{past_of}
 use Rattle.fed_hosts.specs.Views.{view_of}
 use Rattle.fed_hosts.proofs.Doubts.{first_in_doubt, none_in_doubt}
-use Rattle.fed_hosts.proofs.Lines.{short_past, stood_short, view_beside}
+use Rattle.fed_hosts.proofs.Lines.{short_past, stood_asked, view_beside}
 use Rattle.fed_hosts.proofs.Same.{kept_same, same_self}
 use Rattle.fed_hosts.proofs.Faults.{clean}
 use Rattle.fed_hosts.proofs.Served.{keeps_failed, keeps_same, kept_beside}
@@ -28,7 +29,8 @@ returns-then-len-eq0-clause-keeps g c =
 
 pub ask-requires-clause-stood : goal.ask-requires-clause-stood
 ask-requires-clause-stood g c =
-    stood_short g.E.LocalEngine.stands g.D.Disk.tells g.D.Disk.seen g.N.Plan.sites g.N.Wires.rings (taken c.args.self.now.ends.inlet) c.args.self.now c.requires.keeps
+    stood_asked g.E.LocalEngine.stands g.D.Disk.tells g.D.Disk.seen g.N.Plan.sites g.N.Wires.rings (taken c.args.self.now.ends.inlet) c.args.self.now (At.Ask c.at.result.now.tid) (λ home programs past short. short)
+    c.requires.keeps
 
 pub returns-in_err-step-clause-failed : goal.returns-in_err-step-clause-failed
 returns-in_err-step-clause-failed g c =

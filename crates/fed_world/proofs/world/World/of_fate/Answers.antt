@@ -1,6 +1,6 @@
 use Rattle.std.proofs.Common.{Option, ap, ◌∙◌}
 use Rattle.mdb_base.specs.declared.names.SiteId.{SiteId}
-use Rattle.fed_world.specs.declared.site_asks.SiteAsk.TheVariants as At
+use Rattle.local_dbms.specs.declared.asks.SiteAsk.TheVariants as At
 use Rattle.fed_world.specs.declared.asks.Asked.TheVariants.{Coordinator}
 use Rattle.fed_world.specs.declared.asks.CoordAsk.TheVariants as Coord
 use Rattle.fed_world.specs.Hearers.{to_home}

@@ -6,7 +6,7 @@ use Rattle.fed_rules.specs.Requests.{Submits, attempt}
 use Rattle.fed_rules.specs.SiteCommands as Verb
 use Rattle.fed_rules.specs.SitePast.{attempts_of}
 use Rattle.site_core.proofs.LineLaws.{is_there}
-use Rattle.local_dbms.specs.Stands.{CanHand}
+use Rattle.local_dbms.specs.Stands.{CanSubmit}
 use Rattle.local_dbms.proofs.Asked.{begin_spent, begin_submits, found_own, none_request}
 use Rattle.local_dbms.proofs.Fit.{can_begin}
 use Rattle.local_dbms.proofs.dbms.LocalDbms.asks_begin.Goals as goal
@@ -40,4 +40,4 @@ returns-clause-may g c home programs past r short =
     let is = c.begun-begun.ensures home past r.core in
     let few : attempts_of past c.args.tx < 32 = (let most = c.if-begun-ge-MOST_ATTEMPTS.false in omega arith) in
     let may = can_begin g.E.LocalEngine.stands c.args.self.now home programs past r c.args.tx (some_steps (programs c.args.tx) steps own) few short in
-    subst (λ (n : ℕ). CanHand (Ev.Begin (attempt c.args.tx n)) home programs past) (sym is) may
+    subst (λ (n : ℕ). CanSubmit (Ev.Begin (attempt c.args.tx n)) home programs past) (sym is) may
