@@ -16,8 +16,11 @@ use Rattle.actor_store.specs.declared.errors.StepErr.{StepErr}
 use Rattle.actor_store.specs.declared.errors.StepErr.TheVariants as Err_is
 use Rattle.coord_core.specs.Stands.{stopped_before, stopped_within}
 use Rattle.coord_tables.specs.Terms.{Terms, line_of}
-use Rattle.actor_tests.specs.GlobalSessions.{HasThree, is_of_three, three}
-use Rattle.global_manager.specs.Stands.{AsksNothing, EachManaged, Fails, HasSite, IsSited, IsSitedFrom, OwnPrograms, Serves, SomeManaged}
+use Rattle.global_manager.specs.declared.asks.CoordAsk.{CoordAsk}
+use Rattle.global_manager.specs.declared.asks.CoordAsk.TheVariants as Coord
+use Rattle.global_manager.specs.Asks.{CanAsk, coord_request}
+use Rattle.global_manager.specs.Stands.{EachManaged, Fails, IsSited, IsSitedFrom, OwnPrograms, Serves, SomeManaged}
+use Rattle.actor_tests.specs.GlobalSessions.{ComesFromThree, HasThree, is_of_three, three}
 
 -- the sites 1 to 3
 pub among_three : (first second third : Protocol) (site : SiteId) → 1 ≤ site.0 → site.0 ≤ 3 → IsAmong site (three first second third)
@@ -50,14 +53,19 @@ pub sited_from : (protocols : List Participant) (home : Option SiteId) (steps : 
 sited_from protocols None steps sited = sited
 sited_from protocols (Some home) steps sited = tt
 
+-- what is asked of them may be asked
+can_ask : (ask : CoordAsk) → ComesFromThree ask → (terms : Terms) (programs : OwnPrograms) (past : CoordPast) → HasThree terms programs past → CanAsk ask terms programs past
+can_ask (Coord.Go tx) from terms programs past has = tt
+can_ask (Coord.Fate tx) from terms programs past has = tt
+can_ask (Coord.Again tid) from terms programs past has = tt
+can_ask (Coord.Late tid) from terms programs past has = tt
+can_ask (Coord.Take site message) from terms programs past has = has site from.0 from.1
+can_ask (Coord.Halt cut) from terms programs past has = tt
+can_ask (Coord.Trip calls cut) from terms programs past has = tt
+can_ask Coord.Back from terms programs past has = tt
+can_ask Coord.Check from terms programs past has = tt
+
 module _ (K L : Terms → OwnPrograms → CoordPast → Type 0) (s : SomeManaged K HasThree) where
-  -- a command that asks nothing may come, and a message of one of the sites
-  pub any : SomeManaged K AsksNothing
-  any = record { terms = s.terms; programs = s.programs; past = s.past; stood = s.stood; holds = tt }
-
-  pub from_site : (site : SiteId) → 1 ≤ site.0 → site.0 ≤ 3 → SomeManaged K (HasSite site)
-  from_site site least most = record { terms = s.terms; programs = s.programs; past = s.past; stood = s.stood; holds = s.holds site least most }
-
   at : (past : CoordPast) → L s.terms s.programs past → SomeManaged L HasThree
   at past stood = record { terms = s.terms; programs = s.programs; past = past; stood = stood; holds = s.holds }
 
@@ -71,18 +79,18 @@ module _ (K L : Terms → OwnPrograms → CoordPast → Type 0) (s : SomeManaged
   failed_on Err_is.Disk (Submits event) (inr stop) = at (stopped_within s.terms s.past event stop.calls stop.cut) stop.stood
   failed_on Err_is.Disk (Declines answer) none = absurd none
 
-  -- behind a command
-  pub goes_on : (result : Result CoordStep StepErr) (asked : Terms → OwnPrograms → CoordPast → Request CoordEvent)
-      → IfOk result (λ step. EachManaged K (λ terms programs past. Serves L step terms programs past (asked terms programs past)))
-      → IfErr result (λ why. EachManaged K (λ terms programs past. Fails L why terms programs past (asked terms programs past)))
-      → SomeManaged L HasThree
-  goes_on (Ok step) asked served failed = served_on step (asked s.terms s.programs s.past) (served s.terms s.programs s.past s.stood)
-  goes_on (Err why) asked served failed = failed_on why (asked s.terms s.programs s.past) (failed s.terms s.programs s.past s.stood)
+  module _ (ask : CoordAsk) (from : ComesFromThree ask) where
+    can : CanAsk ask s.terms s.programs s.past
+    can = can_ask ask from s.terms s.programs s.past s.holds
 
-  -- and behind a message
-  pub takes_on : (result : Result CoordStep StepErr) (event : CoordEvent) (site : SiteId) → 1 ≤ site.0 → site.0 ≤ 3
-      → IfOk result (λ step. EachManaged K (λ terms programs past. HasSite site terms programs past → Serves L step terms programs past (Submits event)))
-      → IfErr result (λ why. EachManaged K (λ terms programs past. HasSite site terms programs past → Fails L why terms programs past (Submits event)))
-      → SomeManaged L HasThree
-  takes_on (Ok step) event site least most served failed = served_on step (Submits event) (served s.terms s.programs s.past s.stood (s.holds site least most))
-  takes_on (Err why) event site least most served failed = failed_on why (Submits event) (failed s.terms s.programs s.past s.stood (s.holds site least most))
+    -- the manager may be asked this
+    pub may_ask : SomeManaged K (CanAsk ask)
+    may_ask = record { terms = s.terms; programs = s.programs; past = s.past; stood = s.stood; holds = can }
+
+    -- and goes on behind it
+    pub goes_on : (result : Result CoordStep StepErr)
+        → IfOk result (λ step. EachManaged K (λ terms programs past. CanAsk ask terms programs past → Serves L step terms programs past (coord_request ask terms programs past)))
+        → IfErr result (λ why. EachManaged K (λ terms programs past. CanAsk ask terms programs past → Fails L why terms programs past (coord_request ask terms programs past)))
+        → SomeManaged L HasThree
+    goes_on (Ok step) served failed = served_on step (coord_request ask s.terms s.programs s.past) (served s.terms s.programs s.past s.stood can)
+    goes_on (Err why) served failed = failed_on why (coord_request ask s.terms s.programs s.past) (failed s.terms s.programs s.past s.stood can)

@@ -10,6 +10,8 @@ use Rattle.global_exec.specs.Pasts.{IsAmong}
 use Rattle.journal_disk.specs.declared.mem_disk.MemDisk.{MemDisk}
 use Rattle.site_core.specs.Sessions.{mem_seen}
 use Rattle.coord_tables.specs.Terms.{Terms}
+use Rattle.global_manager.specs.declared.asks.CoordAsk.{CoordAsk}
+use Rattle.global_manager.specs.declared.asks.CoordAsk.TheVariants as Coord
 use Rattle.global_manager.specs.declared.manager.GlobalManager.{GlobalManager}
 use Rattle.global_manager.specs.Stands.{IsDeclared, OwnPrograms, SomeManaged, Stands}
 
@@ -29,6 +31,11 @@ IsOfThreeSites line = (first second third : Protocol) → IsDeclared (three firs
 -- the coordinator has these sites
 abbrev pub HasThree : Terms → OwnPrograms → CoordPast → Type 0
 HasThree terms programs past = (site : SiteId) → 1 ≤ site.0 → site.0 ≤ 3 → IsAmong site terms.protocols
+
+-- a message comes from one of the sites 1 to 3
+abbrev pub ComesFromThree : CoordAsk → Type 0
+ComesFromThree (Coord.Take site message) = (1 ≤ site.0) × (site.0 ≤ 3)
+ComesFromThree ask = Unit {0}
 
 -- a manager of such a coordinator on a disk in memory stands for something
 unfoldable pub IsOfThree : {P : Type 0} → (P → Policy) → GlobalManager P → MemDisk → Type 0

@@ -87,7 +87,20 @@ impl<P: TakePolicy> CoordCore<P> {
         ensures cause { HasCauseOf StepErr.Disk (D.seen disk.old).faults (D.seen disk.new).faults result }
     {
         match self.store.standing {
-            Standing::Up => self.serve(alloc, disk, event),
+            Standing::Up => match event {
+                CoordEvent::Fate(tx) => Ok(self.fate(alloc, tx)),
+                CoordEvent::Halt { cut } => Ok(self.halt(alloc, disk, cut)),
+                CoordEvent::Trip { calls, cut } => Ok(self.set_trip(alloc, calls, cut)),
+                CoordEvent::Back => Ok(silent(alloc, Answer::Awake)),
+                CoordEvent::Take { site, message } => self.take(alloc, disk, site, message),
+                CoordEvent::Go { tid, program } => match self.go(alloc, tid, program) {
+                    Ok(step) => Ok(step),
+                    Err(Memory) => Err(StepErr::Memory),
+                },
+                CoordEvent::Again(tid) => self.again(alloc, disk, tid),
+                CoordEvent::Late(tid) => self.late(alloc, disk, tid),
+                CoordEvent::Check => self.check(alloc, disk),
+            },
             Standing::Down | Standing::Failing => self.wait(alloc, disk, event),
         }
     }
@@ -154,36 +167,6 @@ impl<P: TakePolicy> CoordCore<P> {
         ensures { EachPast (Holds P.policy self.now) (λ terms past. is_down past ≡ false → result ≡ undecided_of past tx) }
     {
         self.tables.stages.last_of(tx)
-    }
-
-    /// Answers an event of a coordinator that is up.
-    fn serve<D: Disk>(
-        &mut self,
-        alloc: Global,
-        disk: &mut D,
-        event: CoordEvent,
-    ) -> Result<CoordStep, StepErr>
-        requires told { IsTrue D.tells }
-        requires up { self.old.store.standing ≡ Standing.Up }
-        requires may { SomePast (Stands P.policy D.tells self.old (D.seen disk.old)) (CanStep event) }
-        ensures answered { IfOk result (λ step. Answers P.policy D.tells event self.old (D.seen disk.old) step self.new (D.seen disk.new)) }
-        ensures failed { IfErr result (λ why. Refuses P.policy D.tells event self.old (D.seen disk.old) why self.new (D.seen disk.new)) }
-        ensures cause { HasCauseOf StepErr.Disk (D.seen disk.old).faults (D.seen disk.new).faults result }
-    {
-        match event {
-            CoordEvent::Fate(tx) => Ok(self.fate(alloc, tx)),
-            CoordEvent::Halt { cut } => Ok(self.halt(alloc, disk, cut)),
-            CoordEvent::Trip { calls, cut } => Ok(self.set_trip(alloc, calls, cut)),
-            CoordEvent::Back => Ok(silent(alloc, Answer::Awake)),
-            CoordEvent::Take { site, message } => self.take(alloc, disk, site, message),
-            CoordEvent::Go { tid, program } => match self.go(alloc, tid, program) {
-                Ok(step) => Ok(step),
-                Err(Memory) => Err(StepErr::Memory),
-            },
-            CoordEvent::Again(tid) => self.again(alloc, disk, tid),
-            CoordEvent::Late(tid) => self.late(alloc, disk, tid),
-            CoordEvent::Check => self.check(alloc, disk),
-        }
     }
 
     /// Answers an event of a coordinator that is down.

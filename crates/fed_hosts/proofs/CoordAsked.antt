@@ -23,8 +23,11 @@ use Rattle.mdb_base.specs.declared.replies.Edge.{Edge}
 use Rattle.coord_tables.specs.Terms.{Terms, line_of}
 use Rattle.coord_laws.proofs.Made.{Begins}
 use Rattle.coord_laws.proofs.MadeLines.{coord_made}
+use Rattle.actor_store.specs.declared.errors.StepErr.{StepErr}
+use Rattle.global_manager.specs.declared.asks.CoordAsk.{CoordAsk}
 use Rattle.global_manager.specs.declared.manager.GlobalManager.{GlobalManager}
-use Rattle.global_manager.specs.Stands.{OwnPrograms, Serves, Stands}
+use Rattle.global_manager.specs.Asks.{CanAsk, coord_request as ask_request}
+use Rattle.global_manager.specs.Stands.{EachManaged, Fails, OwnPrograms, Serves, Stands}
 use Rattle.scripted_link.specs.Rings.{Wire}
 use Rattle.fed_hosts.specs.declared.coord_actor.CoordActor.{CoordActor}
 use Rattle.fed_hosts.specs.declared.coord_actor.CoordTold.{CoordTold}
@@ -35,7 +38,7 @@ use Rattle.fed_hosts.specs.CoordCarrying.{IsBesideCoordLines, IsCoordTold, coord
 use Rattle.host_laws.specs.CoordHistory.{IsCoordCommand}
 use Rattle.fed_hosts.specs.CoordKeeps.{CoordKeeps, IsBorneFrom, IsCoordLogged}
 use Rattle.host_laws.specs.CoordPlans.{CoordPlan}
-use Rattle.fed_hosts.specs.CoordServing.{IsLastAttempt, IsLastGo, MayCall, MayGo, request_of_call}
+use Rattle.fed_hosts.specs.CoordServing.{IsLastAttempt, IsLastGo, MayCall, MayGo, ask_of_call, request_of_call}
 use Rattle.host_laws.specs.CoordTurns.{CoordTurn, MayAnswer, coord_behind, coord_past_of, coord_request, coord_sends}
 use Rattle.fed_hosts.specs.CoordViews.{IsCoordSpent, IsKnown, IsUnknown, MayAnswerNext, command_of_call}
 use Rattle.fed_hosts.specs.Keeps.{most_begun}
@@ -62,6 +65,29 @@ request_is plan past (Call.Go tx) = refl
 request_is plan past (Call.Fate tx) = refl
 request_is plan past (Call.Again tid) = refl
 request_is plan past (Call.Late tid) = refl
+
+-- what a call asks may be asked
+can_call : (call : CoordCall) (terms : Terms) (programs : OwnPrograms) (past : CoordPast) → CanAsk (ask_of_call call) terms programs past
+can_call (Call.Go tx) terms programs past = tt
+can_call (Call.Fate tx) terms programs past = tt
+can_call (Call.Again tid) terms programs past = tt
+can_call (Call.Late tid) terms programs past = tt
+
+module _ (ask : CoordAsk) (call : CoordCall) (is : ask ≡ ask_of_call call) where
+  pub call_asks : (terms : Terms) (programs : OwnPrograms) (past : CoordPast) → CanAsk ask terms programs past
+  call_asks terms programs past = subst (λ (a : CoordAsk). CanAsk a terms programs past) (sym is) (can_call call terms programs past)
+
+  -- what answers what it asks answers the call
+  module _ (K L : Terms → OwnPrograms → CoordPast → Type 0) where
+    pub call_served : (step : CoordStep) → EachManaged K (λ terms programs past. CanAsk ask terms programs past → Serves L step terms programs past (ask_request ask terms programs past))
+        → EachManaged K (λ terms programs past. Serves L step terms programs past (request_of_call terms programs past call))
+    call_served step served terms programs past k =
+        subst (λ (a : CoordAsk). Serves L step terms programs past (ask_request a terms programs past)) is (served terms programs past k (call_asks terms programs past))
+
+    pub call_failed : (why : StepErr) → EachManaged K (λ terms programs past. CanAsk ask terms programs past → Fails L why terms programs past (ask_request ask terms programs past))
+        → EachManaged K (λ terms programs past. Fails L why terms programs past (request_of_call terms programs past call))
+    call_failed why failed terms programs past k =
+        subst (λ (a : CoordAsk). Fails L why terms programs past (ask_request a terms programs past)) is (failed terms programs past k (call_asks terms programs past))
 
 -- it takes no message
 pub none_borne : (plan : CoordPlan) (backs : List (Option Packet)) (call : CoordCall) → IsBorneFrom plan backs (command_of_call call) None

@@ -29,10 +29,12 @@ use Rattle.global_exec.specs.Pasts.{IsAmong}
 use Rattle.journal_disk.specs.Disk.{Seen}
 use Rattle.rules_laws.proofs.CoordPasts.{BeginsNothing}
 use Rattle.coord_tables.specs.Terms.{line_of}
+use Rattle.global_manager.specs.declared.asks.CoordAsk.{CoordAsk}
 use Rattle.global_manager.specs.declared.manager.GlobalManager.{GlobalManager}
+use Rattle.global_manager.specs.Asks.{CanAsk}
 use Rattle.actor_store.specs.declared.errors.StepErr.{StepErr}
 use Rattle.actor_store.specs.declared.errors.StepErr.TheVariants as Err_is
-use Rattle.global_manager.specs.Stands.{AsksNothing, Fails, Sends, SomeManaged, Stands}
+use Rattle.global_manager.specs.Stands.{Fails, Sends, SomeManaged, Stands}
 use Rattle.scripted_link.specs.declared.inlet.Inlet.{Inlet}
 use Rattle.scripted_link.specs.Inlets.{inlet_ring, returned, taken}
 use Rattle.scripted_link.specs.declared.outlet.Outlet.{Outlet}
@@ -177,9 +179,10 @@ was_put_back ports arrived port inlet within at ring took =
     })
 
 module _ {P D : Type 0} (test : P → Policy) (tells : Bool) (seen : D → Seen) (plan : CoordPlan) (rings : List Wire) where
-  -- the coordinator stands for it, and nothing more is asked
-  pub stood_managed : (ports : List Port) (actor : CoordActor P D) → CoordKeepsFor test tells seen plan rings false ports actor → SomeManaged (Stands test tells actor.manager (seen actor.disk)) AsksNothing
-  stood_managed ports actor k = record { terms = plan.terms; programs = plan.programs; past = coord_past_of plan k.turns; stood = k.standing; holds = tt }
+  -- the coordinator stands for it, and may be asked this
+  pub stood_managed : (ports : List Port) (actor : CoordActor P D) (ask : CoordAsk) (k : CoordKeepsFor test tells seen plan rings false ports actor) → CanAsk ask plan.terms plan.programs (coord_past_of plan k.turns)
+      → SomeManaged (Stands test tells actor.manager (seen actor.disk)) (CanAsk ask)
+  stood_managed ports actor ask k can = record { terms = plan.terms; programs = plan.programs; past = coord_past_of plan k.turns; stood = k.standing; holds = can }
 
   -- what the host keeps whatever its inlets become
   abbrev keeps_inlets : (before : List Port) (old : CoordActor P D) (ports : Vec Port) → EachBecomes (λ place a b. IsBesideInlet a b) old.ports.items ports.items → CoordKeepsFor test tells seen plan rings false before old

@@ -5,7 +5,6 @@ use Rattle.mdb_base.specs.declared.names.Tx.{Tx}
 use Rattle.fed_rules.specs.declared.answers.Answer.TheVariants as Say
 use Rattle.fed_rules.specs.declared.events.CoordEvent.{CoordEvent}
 use Rattle.fed_rules.specs.declared.events.CoordEvent.TheVariants as Ev
-use Rattle.fed_rules.specs.CoordCommands.{attempt_request, fate_request, go_request}
 use Rattle.fed_rules.specs.CoordPast.{CoordPast, attempts_of}
 use Rattle.fed_rules.specs.Policies.{Policy}
 use Rattle.fed_rules.specs.Requests.{Request, attempt, unless_begun}
@@ -13,6 +12,9 @@ use Rattle.fed_rules.specs.SitePast.{begins_tx}
 use Rattle.journal_disk.specs.Disk.{Seen}
 use Rattle.actor_store.specs.declared.errors.StepErr.{StepErr}
 use Rattle.coord_tables.specs.Terms.{Terms, line_of}
+use Rattle.global_manager.specs.declared.asks.CoordAsk.{CoordAsk}
+use Rattle.global_manager.specs.declared.asks.CoordAsk.TheVariants as Coord
+use Rattle.global_manager.specs.Asks.{coord_request}
 use Rattle.global_manager.specs.Stands.{OwnPrograms}
 use Rattle.scripted_link.specs.Rings.{Wire}
 use Rattle.fed_hosts.specs.declared.coord_actor.CoordActor.{CoordActor}
@@ -26,12 +28,16 @@ use Rattle.fed_hosts.specs.Keeps.{most_begun}
 use Rattle.fed_hosts.specs.Rounds.{ArePolled}
 use Rattle.fed_hosts.specs.Serving.{has_failed}
 
--- what the rules call it
+-- what it asks of the coordinator
+abbrev pub ask_of_call : CoordCall → CoordAsk
+ask_of_call (Call.Go tx) = Coord.Go tx
+ask_of_call (Call.Fate tx) = Coord.Fate tx
+ask_of_call (Call.Again tid) = Coord.Again tid
+ask_of_call (Call.Late tid) = Coord.Late tid
+
+-- and what the rules call that
 abbrev pub request_of_call : Terms → OwnPrograms → CoordPast → CoordCall → Request CoordEvent
-request_of_call terms programs past (Call.Go tx) = go_request terms.protocols terms.policy (programs tx) past tx
-request_of_call terms programs past (Call.Fate tx) = fate_request (programs tx) tx
-request_of_call terms programs past (Call.Again tid) = attempt_request past tid (Ev.Again tid)
-request_of_call terms programs past (Call.Late tid) = attempt_request past tid (Ev.Late tid)
+request_of_call terms programs past call = coord_request (ask_of_call call) terms programs past
 
 -- an attempt may begin: fewer were begun than a host begins, or nothing would begin
 abbrev pub MayGo : Terms → CoordPast → Tx → Type 0

@@ -1,45 +1,20 @@
 //! What a client asks of the coordinator's host.
 ghost use Rattle.std.specs.Prelude.{◌≡◌, false, IfOk, IfErr, IsFalse, IsTrue};
-ghost use Rattle.mdb_base.specs.Counts.{HasCauseOf};
-ghost use Rattle.global_manager.specs.Stands.{AsksNothing, EachManaged, Fails, Recalls, Serves, SomeManaged, Stands};
+ghost use Rattle.global_manager.specs.Stands.{EachManaged, Recalls};
 ghost use Rattle.fed_hosts.specs.CoordKeeps.{CoordKeeps};
-ghost use Rattle.fed_hosts.specs.CoordServing.{HasCoordFailed, IsLastAttempt, IsLastGo, MayCall, MayGo, request_of_call};
+ghost use Rattle.fed_hosts.specs.CoordServing.{HasCoordFailed, IsLastAttempt, IsLastGo, MayCall, MayGo};
 ghost use Rattle.fed_hosts.specs.CoordViews.{HasCoordServed, IsKnown, IsUnknown, coord_view_of};
 
 use crate::answers::again;
 use crate::coord_actor::{CoordActor, CoordTold};
-use crate::coord_asks::{CoordCall, command};
+use crate::coord_asks::{CoordCall, ask_of, command};
 use crate::plans::Plan;
 use crate::site_actor::{MOST_BEGUN, MOST_LINES};
-use fed_rules::{Answer, CoordStep};
+use fed_rules::Answer;
 use global_exec::TakePolicy;
 use global_manager::{GlobalManager, StepErr};
 use journal_disk::Disk;
 use mdb_base::Tx;
-use std::alloc::Global;
-
-/// The global transaction manager carries out what is asked of it.
-fn ask<P: TakePolicy, D: Disk>(
-    alloc: Global,
-    manager: &mut GlobalManager<P>,
-    disk: &mut D,
-    call: CoordCall,
-) -> Result<CoordStep, StepErr>
-    requires told { IsTrue D.tells }
-    requires stood { SomeManaged (Stands P.policy D.tells manager.old (D.seen disk.old)) AsksNothing }
-    ensures served { IfOk result (λ step. EachManaged (Stands P.policy D.tells manager.old (D.seen disk.old)) (λ terms programs past.
-        Serves (Stands P.policy D.tells manager.new (D.seen disk.new)) step terms programs past (request_of_call terms programs past call))) }
-    ensures failed { IfErr result (λ why. EachManaged (Stands P.policy D.tells manager.old (D.seen disk.old)) (λ terms programs past.
-        Fails (Stands P.policy D.tells manager.new (D.seen disk.new)) why terms programs past (request_of_call terms programs past call))) }
-    ensures cause { HasCauseOf StepErr.Disk (D.seen disk.old).faults (D.seen disk.new).faults result }
-{
-    match call {
-        CoordCall::Go(tx) => manager.go(alloc, disk, tx),
-        CoordCall::Fate(tx) => manager.fate(alloc, disk, tx),
-        CoordCall::Again(tid) => manager.again(alloc, disk, tid),
-        CoordCall::Late(tid) => manager.late(alloc, disk, tid),
-    }
-}
 
 /// Whether the call is about a transaction that is no global one. Attempts are named freely.
 fn is_unknown<P: TakePolicy>(manager: &GlobalManager<P>, call: CoordCall) -> bool
@@ -102,7 +77,7 @@ impl<P: TakePolicy, D: Disk> CoordActor<P, D> {
         if self.reserve().is_err() {
             return Err(StepErr::Memory);
         }
-        let step = ask(self.alloc, &mut self.manager, &mut self.disk, call)?;
+        let step = self.manager.ask(self.alloc, &mut self.disk, ask_of(call))?;
         let copy = again(&step.answer);
         self.carry(CoordTold {
             command: command(call),

@@ -17,7 +17,7 @@ use crate::turns::MOST_STAMP;
 use fed_messages::decode_from;
 use fed_rules::Command;
 use global_exec::TakePolicy;
-use global_manager::StepErr;
+use global_manager::{CoordAsk, StepErr};
 use journal_disk::Disk;
 
 impl<P: TakePolicy, D: Disk> CoordActor<P, D> {
@@ -64,7 +64,9 @@ impl<P: TakePolicy, D: Disk> CoordActor<P, D> {
         ensures failed { IfErr result (HasCoordFailed P.policy D.tells D.seen N.coordinator N.rings self.new) }
         ensures same { IfErr result (λ _. coord_view_of self.new false ≡ coord_view_of self.old false) }
     {
-        let step = self.manager.back(self.alloc, &mut self.disk)?;
+        let step = self
+            .manager
+            .ask(self.alloc, &mut self.disk, CoordAsk::Back)?;
         self.carry(CoordTold {
             command: Command::Back { actor: 0 },
             answer: step.answer,
@@ -97,10 +99,11 @@ impl<P: TakePolicy, D: Disk> CoordActor<P, D> {
             return Ok(false);
         }
         let site = self.ports[arrived.place].ends.site;
-        match self
-            .manager
-            .take(self.alloc, &mut self.disk, site, envelope.message)
-        {
+        let ask = CoordAsk::Take {
+            site,
+            message: envelope.message,
+        };
+        match self.manager.ask(self.alloc, &mut self.disk, ask) {
             Ok(step) => {
                 self.carry(CoordTold {
                     command: Command::Take {

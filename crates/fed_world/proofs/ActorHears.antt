@@ -5,8 +5,8 @@ use Rattle.fed_rules.specs.Sessions.{Session}
 use Rattle.fed_rules.specs.Story.{story_in}
 use Rattle.journal_disk.specs.Disk.{Seen}
 use Rattle.local_dbms.specs.declared.asks.SiteAsk.{SiteAsk}
-use Rattle.fed_world.specs.declared.site_asks.Heard.{Heard}
-use Rattle.fed_world.specs.declared.asks.CoordAsk.{CoordAsk}
+use Rattle.fed_world.specs.declared.heard.Heard.{Heard}
+use Rattle.global_manager.specs.declared.asks.CoordAsk.{CoordAsk}
 use Rattle.fed_world.specs.declared.errors.WorldErr.{WorldErr}
 use Rattle.fed_world.specs.declared.world.World.{World}
 use Rattle.fed_world.specs.Asks.{AsksCoordinator, AsksSite}

@@ -37,15 +37,16 @@ use Rattle.coord_tables.specs.Terms.{Terms}
 use Rattle.local_dbms.specs.declared.asks.SiteAsk.{SiteAsk}
 use Rattle.local_dbms.specs.declared.asks.SiteAsk.TheVariants as At
 use Rattle.local_dbms.specs.Asks.{site_request}
+use Rattle.global_manager.specs.declared.asks.CoordAsk.{CoordAsk}
+use Rattle.global_manager.specs.declared.asks.CoordAsk.TheVariants as Coord
+use Rattle.global_manager.specs.Asks.{coord_request}
 use Rattle.local_dbms.specs.Found.{found_programs}
 use Rattle.local_dbms.specs.Stands.{OwnPrograms, own_programs, program_at}
 use Rattle.session_routes.specs.Routes.{place_in}
 use Rattle.fed_world.specs.Beginnings.{either, journal_at, programs_at, with_found}
 use Rattle.fed_world.specs.declared.asks.Asked.{Asked}
 use Rattle.fed_world.specs.declared.asks.Asked.TheVariants.{Coordinator, Nobody}
-use Rattle.fed_world.specs.declared.asks.CoordAsk.{CoordAsk}
-use Rattle.fed_world.specs.declared.asks.CoordAsk.TheVariants as Coord
-use Rattle.fed_world.specs.Asks.{IsAsked, IsFromSite, WasSent, coord_request, terms_of}
+use Rattle.fed_world.specs.Asks.{IsAsked, IsFromSite, WasSent, terms_of}
 use Rattle.fed_world.specs.Hearers.{at_place, to_actor, to_fate, to_give, to_home, to_local, to_site, to_take}
 use Rattle.fed_world.proofs.DeclaredPlaces.{among_sites, at_its_place, home_at_place, no_home_placeless}
 

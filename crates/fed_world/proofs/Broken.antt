@@ -18,7 +18,7 @@ use Rattle.session_routes.specs.declared.routes.Routes.{Routes}
 use Rattle.session_routes.specs.Routes.{IsRouted}
 use Rattle.fed_world.specs.declared.cores.Cores.{Cores}
 use Rattle.fed_world.specs.declared.errors.WorldErr.TheVariants as Err_is
-use Rattle.fed_world.specs.declared.site_asks.Heard.{Heard}
+use Rattle.fed_world.specs.declared.heard.Heard.{Heard}
 use Rattle.fed_world.specs.declared.world.World.{World}
 use Rattle.fed_world.specs.Asks.{terms_of}
 use Rattle.fed_world.specs.Worlds.{ActorBroke, ActorsAt, ActorsStand, DbmsStands, FailsAt, HasActorsOf, HasLines, IsHeard, IsSameWorld, IsUnheard, KeepsLines, ManagerStands, Stands, StandsBut}

@@ -31,7 +31,10 @@ use Rattle.any_engine.specs.Stands as Engines
 use Rattle.conservative_take.specs.declared.any_policy.AnyPolicy.{AnyPolicy}
 use Rattle.conservative_take.specs.AnyPolicies.{policy_is}
 use Rattle.coord_tables.specs.Terms.{Terms}
+use Rattle.global_manager.specs.declared.asks.CoordAsk.{CoordAsk}
+use Rattle.global_manager.specs.declared.asks.CoordAsk.TheVariants as Coord
 use Rattle.global_manager.specs.declared.manager.GlobalManager.{GlobalManager}
+use Rattle.global_manager.specs.Asks.{CanAsk, coord_request}
 use Rattle.global_manager.specs.Stands as Manager
 use Rattle.global_manager.specs.Stands.{EachManaged, SomeManaged}
 use Rattle.local_dbms.specs.declared.dbms.LocalDbms.{LocalDbms}
@@ -40,17 +43,15 @@ use Rattle.fed_rules.specs.OwnPrograms.{OwnPrograms}
 use Rattle.fed_rules.specs.Sessions.{Session}
 use Rattle.session_routes.specs.declared.traffic.Traffic.{Traffic}
 use Rattle.session_routes.specs.Posting.{ArePosted, AreSameTraffic, message_to, places_to}
-use Rattle.fed_world.specs.declared.site_asks.Heard.{Heard}
+use Rattle.fed_world.specs.declared.heard.Heard.{Heard}
 use Rattle.fed_world.specs.Seats.{SitesAt}
 use Rattle.fed_world.proofs.SeatLines.{Moves, one_message, sites_told}
 use Rattle.fed_world.proofs.SentPlaces.{sent_places}
 use Rattle.world_laws.proofs.Members.{SendsAmong}
 use Rattle.fed_world.proofs.SessionRuns.{coordinator_among}
-use Rattle.fed_world.specs.declared.asks.CoordAsk.{CoordAsk}
-use Rattle.fed_world.specs.declared.asks.CoordAsk.TheVariants as Coord
 use Rattle.fed_world.specs.declared.errors.WorldErr.{WorldErr}
 use Rattle.fed_world.specs.declared.world.World.{World}
-use Rattle.fed_world.specs.Asks.{AsksCoordinator, CanTellCoord, IsFromSite, coord_request, terms_of}
+use Rattle.fed_world.specs.Asks.{AsksCoordinator, IsFromSite, terms_of}
 use Rattle.fed_world.specs.Worlds.{ActorsStand, AreDisks, DbmsStands, IsHeard, IsUnheard, ManagerStands, error_of}
 use Rattle.fed_world.proofs.Disks.{on_other, on_own, on_put, put_disks, seen_at}
 use Rattle.fed_world.proofs.Growing.{coord_sends_from, few_behind, numbers_fit}
@@ -58,17 +59,17 @@ use Rattle.fed_world.proofs.SeatsKept.{channel_counts, channel_sites, channel_to
 use Rattle.fed_world.proofs.SiteHeard.{declared_named, declared_rise}
 use Rattle.fed_world.specs.Beginnings.{Begins}
 
--- the coordinator may be told what a command asks of it
-pub can_tell_coord : (ask : CoordAsk) (scenario : Scenario) (programs : OwnPrograms) (past : CoordPast) → IsFromSite ask scenario → CanTellCoord ask (terms_of scenario) programs past
-can_tell_coord (Coord.Take site message) scenario programs past from = from
-can_tell_coord (Coord.Go tx) scenario programs past from = tt
-can_tell_coord (Coord.Fate tx) scenario programs past from = tt
-can_tell_coord (Coord.Again tid) scenario programs past from = tt
-can_tell_coord (Coord.Late tid) scenario programs past from = tt
-can_tell_coord (Coord.Halt cut) scenario programs past from = tt
-can_tell_coord (Coord.Trip calls cut) scenario programs past from = tt
-can_tell_coord Coord.Back scenario programs past from = tt
-can_tell_coord Coord.Check scenario programs past from = tt
+-- the coordinator may be asked what a command asks of it
+pub can_ask_coord : (ask : CoordAsk) (scenario : Scenario) (programs : OwnPrograms) (past : CoordPast) → IsFromSite ask scenario → CanAsk ask (terms_of scenario) programs past
+can_ask_coord (Coord.Take site message) scenario programs past from = from
+can_ask_coord (Coord.Go tx) scenario programs past from = tt
+can_ask_coord (Coord.Fate tx) scenario programs past from = tt
+can_ask_coord (Coord.Again tid) scenario programs past from = tt
+can_ask_coord (Coord.Late tid) scenario programs past from = tt
+can_ask_coord (Coord.Halt cut) scenario programs past from = tt
+can_ask_coord (Coord.Trip calls cut) scenario programs past from = tt
+can_ask_coord Coord.Back scenario programs past from = tt
+can_ask_coord Coord.Check scenario programs past from = tt
 
 -- a line of the coordinator stays away from the sites' pasts
 moves_none : (session : Session) (story : Story) (r : Request CoordEvent) (site : SiteId) (past : SitePast) → Moves site (coord_requested session.plan story r) past past (sends_to site (coord_requested session.plan story r)) []
@@ -180,13 +181,13 @@ module _ (tells : Bool) (world : World) (disks : List Seen) (session : Session) 
       abbrev asked : Request CoordEvent
       asked = coord_request ask (terms_of session.plan) (global_program session.plan) (coord_past (story_in session commands))
 
-      pub may_tell_coord : SomeManaged (Manager.Stands policy_is tells world.cores.coordinator old) (CanTellCoord ask)
-      may_tell_coord = record {
+      pub may_ask_coord : SomeManaged (Manager.Stands policy_is tells world.cores.coordinator old) (CanAsk ask)
+      may_ask_coord = record {
         terms = terms_of session.plan;
         programs = global_program session.plan;
         past = coord_past (story_in session commands);
         stood = coordinator_at;
-        holds = can_tell_coord ask session.plan (global_program session.plan) (coord_past (story_in session commands)) asks.from;
+        holds = can_ask_coord ask session.plan (global_program session.plan) (coord_past (story_in session commands)) asks.from;
       }
 
       pub coord_hears : Begins session → (now : List Seen) (next : World) (roomed : List Traffic) (step : CoordStep) (heard : Heard) → now ≡ slice_set disks 0 new → IsPostedTo world next roomed step.sends
@@ -246,12 +247,12 @@ module _ (tells : Bool) (world : World) (disks : List Seen) (session : Session) 
               (λ p a b ea eb. (let x = put.posted.each p a b ea eb in (x.site, x.to ∙ ap (λ (ms : List ToSite). a.to.items ++ ms) (messages a.site), x.from))))
 
       pub hears_told : Begins session → (now : List Seen) (next : World) (roomed : List Traffic) (sends : List Sent) (step : CoordStep) (heard : Heard) → now ≡ slice_set disks 0 new → IsPostedTo world next roomed sends → sends ≡ step.sends
-          → EachManaged (Manager.Stands policy_is tells world.cores.coordinator old) (λ terms programs past. CanTellCoord ask terms programs past
+          → EachManaged (Manager.Stands policy_is tells world.cores.coordinator old) (λ terms programs past. CanAsk ask terms programs past
           → Manager.Serves (Manager.Stands policy_is tells next.cores.coordinator new) step terms programs past (coord_request ask terms programs past))
           → IsRising (λ (z : Sent). z.site.0) step.sends → heard.answer ≡ step.answer → heard.sends ≡ places_to sends roomed → IsHeard tells next now heard command session commands
       hears_told begins now next roomed sends step heard is put same served rises said places =
           coord_hears begins now next roomed step heard is (subst (λ (xs : List Sent). IsPostedTo world next roomed xs) same put)
-          (served (terms_of session.plan) (global_program session.plan) (coord_past (story_in session commands)) coordinator_at (can_tell_coord ask session.plan (global_program session.plan) (coord_past (story_in session commands)) asks.from))
+          (served (terms_of session.plan) (global_program session.plan) (coord_past (story_in session commands)) coordinator_at (can_ask_coord ask session.plan (global_program session.plan) (coord_past (story_in session commands)) asks.from))
           rises said (places ∙ ap (λ (xs : List Sent). places_to xs roomed) same)
 
       -- what isn't heard
@@ -283,13 +284,13 @@ module _ (tells : Bool) (world : World) (disks : List Seen) (session : Session) 
           )
 
       pub fails_told : (why : StepErr) (told : WorldErr) (now : List Seen) (next : World) → told ≡ error_of 0 why → now ≡ slice_set disks 0 new → IsRoomed world next
-          → EachManaged (Manager.Stands policy_is tells world.cores.coordinator old) (λ terms programs past. CanTellCoord ask terms programs past
+          → EachManaged (Manager.Stands policy_is tells world.cores.coordinator old) (λ terms programs past. CanAsk ask terms programs past
           → Manager.Fails (Manager.Stands policy_is tells next.cores.coordinator new) why terms programs past (coord_request ask terms programs past))
           → IsUnheard tells told next now command session commands
       fails_told why told now next same is roomed failed =
           subst (λ (e : WorldErr). IsUnheard tells e next now command session commands) (sym same)
           (coord_fails why now next is roomed
-          (failed (terms_of session.plan) (global_program session.plan) (coord_past (story_in session commands)) coordinator_at (can_tell_coord ask session.plan (global_program session.plan) (coord_past (story_in session commands)) asks.from)))
+          (failed (terms_of session.plan) (global_program session.plan) (coord_past (story_in session commands)) coordinator_at (can_ask_coord ask session.plan (global_program session.plan) (coord_past (story_in session commands)) asks.from)))
 
 -- the disk of the coordinator was read
 pub first_disk : {D : Type 0} (seen : D → Seen) (disks : List D) (disk : D) (session : Session) → AreDisks (map seen disks) session → disk ≡ get_or disks 0 disk → slice_get (map seen disks) 0 ≡ Some (seen disk)

@@ -3,7 +3,6 @@ pub mod Asking
 pub mod BackSteps
 pub mod Broken
 pub mod CoordHeard
-pub mod CoordTold
 pub mod DeclaredPlaces
 pub mod DeclaredSites
 pub mod DeclaredTransactions

@@ -18,7 +18,7 @@ use Rattle.journal_disk.specs.Disk.{Seen}
 use Rattle.local_dbms.specs.Stands.{OwnPrograms}
 use Rattle.session_report.specs.declared.marks.Marks.{Marks}
 use Rattle.session_routes.specs.declared.traffic.Traffic.{Traffic}
-use Rattle.fed_world.specs.declared.site_asks.Heard.{Heard}
+use Rattle.fed_world.specs.declared.heard.Heard.{Heard}
 use Rattle.fed_world.specs.SeatParts.{PartAt}
 use Rattle.fed_world.specs.Seats.{AreFew, OfDbms}
 use Rattle.fed_world.specs.declared.cores.Cores.{Cores}

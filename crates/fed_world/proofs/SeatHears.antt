@@ -22,7 +22,7 @@ use Rattle.session_report.specs.Marks.{kept_marks, new_marks}
 use Rattle.session_report.proofs.LineMarks.{line_marks_one}
 use Rattle.fed_world.proofs.MarkedSeats.{going_marked}
 use Rattle.session_routes.specs.declared.traffic.Traffic.{Traffic}
-use Rattle.fed_world.specs.declared.site_asks.Heard.{Heard}
+use Rattle.fed_world.specs.declared.heard.Heard.{Heard}
 use Rattle.fed_world.specs.SeatParts.{PartAt, PartHears}
 
 -- a journal that didn't grow adds no mark

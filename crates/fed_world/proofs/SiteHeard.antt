@@ -38,7 +38,7 @@ use Rattle.local_dbms.specs.Stands as Dbms
 use Rattle.local_dbms.specs.Stands.{OwnPrograms, sends_of}
 use Rattle.session_report.specs.declared.marks.Marks.{Marks}
 use Rattle.session_routes.specs.declared.traffic.Traffic.{Traffic}
-use Rattle.fed_world.specs.declared.site_asks.Heard.{Heard}
+use Rattle.fed_world.specs.declared.heard.Heard.{Heard}
 use Rattle.fed_world.specs.SeatParts.{PartAt, PartFails, PartHears}
 use Rattle.fed_world.proofs.SeatLines.{Frame, sites_hear}
 use Rattle.session_routes.proofs.Posts.{get_put}

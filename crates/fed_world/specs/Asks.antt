@@ -5,12 +5,7 @@ use Rattle.order_laws.specs.Chains.{In}
 use Rattle.global_exec.specs.Pasts.{IsAmong}
 use Rattle.fed_rules.specs.declared.answers.Answer.TheVariants as Say
 use Rattle.fed_rules.specs.declared.commands.Command.{Command}
-use Rattle.fed_rules.specs.declared.events.CoordEvent.{CoordEvent}
-use Rattle.fed_rules.specs.declared.events.CoordEvent.TheVariants as To_coord
 use Rattle.fed_rules.specs.declared.scenario.Scenario.{Scenario}
-use Rattle.fed_rules.specs.CoordCommands.{go_request, fate_request, attempt_request}
-use Rattle.fed_rules.specs.CoordPast.{CoordPast}
-use Rattle.fed_rules.specs.Requests.{Request, Submits}
 use Rattle.fed_rules.specs.Scenarios.{global_program, home_of, policy, protocols, sites}
 use Rattle.fed_rules.specs.Sessions.{Session}
 use Rattle.fed_rules.specs.SiteRecords.{Home}
@@ -19,29 +14,12 @@ use Rattle.coord_tables.specs.Terms.{Terms}
 use Rattle.local_dbms.specs.declared.asks.SiteAsk.{SiteAsk}
 use Rattle.local_dbms.specs.declared.asks.SiteAsk.TheVariants as At
 use Rattle.local_dbms.specs.Asks.{site_request}
-use Rattle.local_dbms.specs.Stands.{OwnPrograms}
+use Rattle.global_manager.specs.declared.asks.CoordAsk.{CoordAsk}
+use Rattle.global_manager.specs.declared.asks.CoordAsk.TheVariants as Coord
+use Rattle.global_manager.specs.Asks.{coord_request}
 use Rattle.fed_world.specs.Beginnings.{programs_at}
 use Rattle.fed_world.specs.declared.asks.Asked.{Asked}
 use Rattle.fed_world.specs.declared.asks.Asked.TheVariants.{Site, Coordinator, Nobody}
-use Rattle.fed_world.specs.declared.asks.CoordAsk.{CoordAsk}
-use Rattle.fed_world.specs.declared.asks.CoordAsk.TheVariants as Coord
-
--- what the coordinator makes of it
-abbrev pub coord_request : CoordAsk → Terms → OwnPrograms → CoordPast → Request CoordEvent
-coord_request (Coord.Go tx) terms programs past = go_request terms.protocols terms.policy (programs tx) past tx
-coord_request (Coord.Fate tx) terms programs past = fate_request (programs tx) tx
-coord_request (Coord.Again tid) terms programs past = attempt_request past tid (To_coord.Again tid)
-coord_request (Coord.Late tid) terms programs past = attempt_request past tid (To_coord.Late tid)
-coord_request (Coord.Take site message) terms programs past = Submits (To_coord.Take site message)
-coord_request (Coord.Halt cut) terms programs past = Submits (To_coord.Halt cut)
-coord_request (Coord.Trip calls cut) terms programs past = Submits (To_coord.Trip calls cut)
-coord_request Coord.Back terms programs past = Submits To_coord.Back
-coord_request Coord.Check terms programs past = Submits To_coord.Check
-
--- when the coordinator may be asked: a message comes from one of its sites
-abbrev pub CanTellCoord : CoordAsk → Terms → OwnPrograms → CoordPast → Type 0
-CanTellCoord (Coord.Take site message) terms programs past = IsAmong site terms.protocols
-CanTellCoord ask terms programs past = Unit {0}
 
 -- the terms of the coordinator of a scenario
 abbrev pub terms_of : Scenario → Terms

@@ -11,8 +11,8 @@ use Rattle.local_dbms.specs.declared.asks.SiteAsk.TheVariants as At
 use Rattle.session_routes.specs.Routes.{place_in}
 use Rattle.fed_world.specs.declared.asks.Asked.{Asked}
 use Rattle.fed_world.specs.declared.asks.Asked.TheVariants.{Site, Coordinator, Nobody}
-use Rattle.fed_world.specs.declared.asks.CoordAsk.{CoordAsk}
-use Rattle.fed_world.specs.declared.asks.CoordAsk.TheVariants as Coord
+use Rattle.global_manager.specs.declared.asks.CoordAsk.{CoordAsk}
+use Rattle.global_manager.specs.declared.asks.CoordAsk.TheVariants as Coord
 
 -- the site at this place is asked, where there is one
 abbrev pub at_place : Option ℕ → SiteAsk → Asked

@@ -13,7 +13,7 @@ use Rattle.local_dbms.specs.Stands.{Fails, OwnPrograms, sends_of}
 use Rattle.session_report.specs.declared.marks.Mark.{Mark}
 use Rattle.session_report.specs.declared.marks.Marks.{Marks}
 use Rattle.session_report.specs.Marks.{kept_marks}
-use Rattle.fed_world.specs.declared.site_asks.Heard.{Heard}
+use Rattle.fed_world.specs.declared.heard.Heard.{Heard}
 use Rattle.session_routes.specs.declared.traffic.Traffic.{Traffic}
 
 -- the site stands for its past, the marks are those of its records behind the first ones, and these are its messages

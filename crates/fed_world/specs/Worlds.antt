@@ -28,13 +28,13 @@ use Rattle.local_dbms.specs.declared.asks.SiteAsk.{SiteAsk}
 use Rattle.local_dbms.specs.declared.dbms.LocalDbms.{LocalDbms}
 use Rattle.local_dbms.specs.Stands as Dbms
 use Rattle.local_dbms.specs.Stands.{OwnPrograms}
-use Rattle.fed_world.specs.declared.site_asks.Heard.{Heard}
+use Rattle.fed_world.specs.declared.heard.Heard.{Heard}
 use Rattle.fed_world.specs.declared.cores.Cores.{Cores}
 use Rattle.fed_world.specs.declared.errors.WorldErr.{WorldErr}
 use Rattle.fed_world.specs.declared.errors.WorldErr.TheVariants as Err_is
 use Rattle.session_routes.specs.declared.traffic.Traffic.{Traffic}
 use Rattle.fed_world.specs.declared.world.World.{World}
-use Rattle.fed_world.specs.declared.asks.CoordAsk.{CoordAsk}
+use Rattle.global_manager.specs.declared.asks.CoordAsk.{CoordAsk}
 use Rattle.fed_world.specs.Asks.{AsksCoordinator, AsksSite, terms_of}
 use Rattle.fed_world.specs.Beginnings.{Begins, IsBlank, Remembers, made_up, programs_at, scenario_of}
 use Rattle.fed_world.specs.Lines.{IsRightIn}

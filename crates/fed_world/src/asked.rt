@@ -6,9 +6,10 @@ ghost use Rattle.fed_world.specs.Asks.{IsAsked};
 ghost use Rattle.fed_world.specs.Hearers.{to_actor, to_fate, to_give, to_local, to_site, to_take};
 ghost use Rattle.fed_world.specs.Worlds.{EachStory, Recalls};
 
-use crate::asks::{Asked, CoordAsk};
+use crate::asks::Asked;
 use crate::world::World;
 use fed_rules::Command;
+use global_manager::CoordAsk;
 use local_dbms::SiteAsk;
 use mdb_base::{SiteId, Tx};
 

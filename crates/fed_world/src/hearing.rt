@@ -3,13 +3,13 @@ ghost use Rattle.std.specs.Prelude.{◌≡◌, IsTrue, IfOk, IfErr, map};
 ghost use Rattle.fed_world.specs.Faults.{CountsTell};
 ghost use Rattle.fed_world.specs.Worlds.{EachCoordAsk, EachSiteAsk, EachStory, HasRoom, IsHeard, IsUnheard, KeepsLines, SomeCoordAsk, SomeSiteAsk, SomeStory, Stands, error_of};
 
-use crate::asks::{Asked, CoordAsk};
+use crate::asks::Asked;
 use crate::errors::WorldErr;
 use crate::seats::tell_seat;
-use crate::site_asks::Heard;
-use crate::telling::tell_coordinator;
+use crate::heard::Heard;
 use crate::world::World;
 use fed_rules::{Answer, Command, Places};
+use global_manager::CoordAsk;
 use journal_disk::Disk;
 use local_dbms::{SiteAsk, StepErr};
 use session_routes::{make_room, post};
@@ -80,7 +80,7 @@ impl World {
         let Ok(()) = make_room(&mut self.traffic) else {
             return Err(WorldErr::Memory);
         };
-        match tell_coordinator(&mut self.cores.coordinator, alloc, &mut disks[0], ask) {
+        match self.cores.coordinator.ask(alloc, &mut disks[0], ask) {
             Ok(step) => {
                 post(&mut self.traffic, step.sends.as_slice(), &mut places);
                 Ok(Heard {

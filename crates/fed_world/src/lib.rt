@@ -16,8 +16,7 @@ mod reopening;
 mod reporting;
 mod seats;
 mod setting_up;
-mod site_asks;
-mod telling;
+mod heard;
 mod world;
 
 pub use cores::{Cores, SiteCores};

@@ -11,7 +11,7 @@ ghost use Rattle.local_dbms.specs.Stands.{Each_site, Some_site};
 ghost use Rattle.session_report.specs.declared.marks.Mark.{Mark as TheMark};
 ghost use Rattle.fed_world.specs.SeatParts.{PartAt, PartFails, PartHears};
 
-use crate::site_asks::Heard;
+use crate::heard::Heard;
 use any_engine::AnyEngine;
 use fed_rules::{FromSite, Place, Places};
 use journal_disk::Disk;

@@ -1,15 +1,14 @@
 -- The event that a command comes to may come to the core, and fits the programs; and what a line leaves of what is stood for.
-use Rattle.std.proofs.Common.{◌≡◌, ◌<◌, Bool, Result, IfErr, IfOk, IsSome, is_some, Some, List, inl, inr, refl, ap, subst}
+use Rattle.std.proofs.Common.{◌≡◌, ◌<◌, Bool, IsSome, is_some, Some, List, inl, inr, refl, ap, subst}
 use Rattle.std.specs.FinMap.{from_entries}
 use Rattle.mdb_base.specs.declared.acts.Step.{Step}
 use Rattle.mdb_base.specs.declared.names.Tx.{Tx}
-use Rattle.mdb_base.proofs.ResultLaws.{map_err, map_ok}
 use Rattle.fed_rules.specs.declared.events.CoordEvent.{CoordEvent}
 use Rattle.fed_rules.specs.declared.events.CoordEvent.TheVariants as Ev
 use Rattle.fed_rules.specs.declared.events.CoordStep.{CoordStep}
 use Rattle.fed_rules.specs.CoordPast.{CoordPast, attempts_of, trip}
 use Rattle.fed_rules.specs.Policies.{Policy}
-use Rattle.fed_rules.specs.Requests.{Request, Submits, attempt}
+use Rattle.fed_rules.specs.Requests.{Submits, attempt}
 use Rattle.journal_disk.specs.Disk.{Seen}
 use Rattle.actor_store.specs.declared.errors.StepErr.{StepErr}
 use Rattle.actor_store.specs.declared.errors.StepErr.TheVariants as Err_is
@@ -19,8 +18,7 @@ use Rattle.coord_core.specs.declared.coord.CoordCore.{CoordCore}
 use Rattle.coord_core.specs.Stands.{Fails as CoreFails, Holds, Steps, StopsBefore as CoreBefore, StopsWithin as CoreWithin}
 use Rattle.coord_tables.specs.Terms.{Terms, line_of}
 use Rattle.global_manager.specs.declared.manager.GlobalManager.{GlobalManager}
-use Rattle.global_manager.specs.declared.requests.Request.{Request as Asked}
-use Rattle.global_manager.specs.Stands.{CanHand, CanServe, EachManaged, Fails, FitsPrograms, OwnPrograms, Owns, Recalls, Sends, Serves, SomeManaged, Stands, StopsBefore, StopsWithin, request_of}
+use Rattle.global_manager.specs.Stands.{CanSubmit, Fails, FitsPrograms, OwnPrograms, Owns, Recalls, Sends, Stands, StopsBefore, StopsWithin}
 use Rattle.global_manager.proofs.Owned.{down_before, down_within, owned_before, owned_more, owned_within}
 
 -- a trip in force has calls left
@@ -29,7 +27,7 @@ holds_passes test core terms past h = subst (λ t. Passes t 0) h.trip (passes_no
 
 -- the next attempt of a global transaction may go
 pub can_go : {P : Type 0} (test : P → Policy) (manager : GlobalManager P) (terms : Terms) (programs : OwnPrograms) (past : CoordPast) → Recalls test manager terms programs past
-    → (tx : Tx) (steps : List Step) → programs tx ≡ Some steps → attempts_of past tx < 32 → CanHand (Ev.Go (attempt tx (attempts_of past tx)) steps) terms programs past
+    → (tx : Tx) (steps : List Step) → programs tx ≡ Some steps → attempts_of past tx < 32 → CanSubmit (Ev.Go (attempt tx (attempts_of past tx)) steps) terms programs past
 can_go test manager terms programs past r tx steps own few =
     let own_some : IsSome (programs tx) = ap is_some own in
     let named = r.owns.named tx own_some in
@@ -71,22 +69,3 @@ module _ {P : Type 0} (test : P → Policy) (tells : Bool) (old : GlobalManager 
   fails Err_is.Memory s = record { core = s; owns = owns }
   fails Err_is.Disk (inl s) = inl (before s)
   fails Err_is.Disk (inr s) = inr (within s)
-
--- what is asked is served as what the rules make of the command, where it may be served and comes to that
-module _ (K L : Terms → OwnPrograms → CoordPast → Type 0) (asked : Asked) (wanted : Terms → OwnPrograms → CoordPast → Request CoordEvent) (result : Result CoordStep StepErr)
-    (is : EachManaged K (λ terms programs past. request_of asked ≡ wanted terms programs past)) (may : EachManaged K (CanServe asked)) where
-  pub serves_as : IfOk result (λ step. EachManaged K (λ terms programs past. CanServe asked terms programs past → Serves L step terms programs past (request_of asked)))
-      → IfOk result (λ step. EachManaged K (λ terms programs past. Serves L step terms programs past (wanted terms programs past)))
-  serves_as served = map_ok _ _ result served (λ step s terms programs past k.
-      let S : Request CoordEvent → Type 0 = Serves L step terms programs past in
-      subst S (is terms programs past k) (s terms programs past k (may terms programs past k)))
-
-  pub fails_as : IfErr result (λ why. EachManaged K (λ terms programs past. CanServe asked terms programs past → Fails L why terms programs past (request_of asked)))
-      → IfErr result (λ why. EachManaged K (λ terms programs past. Fails L why terms programs past (wanted terms programs past)))
-  fails_as failed = map_err _ _ result failed (λ why f terms programs past k.
-      let F : Request CoordEvent → Type 0 = Fails L why terms programs past in
-      subst F (is terms programs past k) (f terms programs past k (may terms programs past k)))
-
--- what holds of all that is stood for holds of some
-pub some_holds : (K P Q : Terms → OwnPrograms → CoordPast → Type 0) → SomeManaged K P → EachManaged K Q → SomeManaged K Q
-some_holds K P Q s each = record { terms = s.terms; programs = s.programs; past = s.past; stood = s.stood; holds = each s.terms s.programs s.past s.stood }

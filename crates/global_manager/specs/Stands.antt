@@ -80,14 +80,6 @@ pub record SomeManaged (K : Terms → OwnPrograms → CoordPast → Type 0) (P :
 abbrev pub EachManaged : (Terms → OwnPrograms → CoordPast → Type 0) → (Terms → OwnPrograms → CoordPast → Type 0) → Type 0
 EachManaged K P = (terms : Terms) (programs : OwnPrograms) (past : CoordPast) → K terms programs past → P terms programs past
 
--- nothing is asked of them
-abbrev pub AsksNothing : Terms → OwnPrograms → CoordPast → Type 0
-AsksNothing terms programs past = Unit {0}
-
--- the site is one of the coordinator's
-abbrev pub HasSite : SiteId → Terms → OwnPrograms → CoordPast → Type 0
-HasSite site terms programs past = IsAmong site terms.protocols
-
 -- the answer to an event with what is sent, and what it leaves; of a refusal by a cycle another cycle may be named
 pub record Sends (K : Terms → OwnPrograms → CoordPast → Type 0) (step : CoordStep) (terms : Terms) (programs : OwnPrograms) (past : CoordPast) (event : CoordEvent) : Type 0 where
   pub said : MayPrint terms.protocols past (line_of terms past event) (line_of terms past event).event step.answer
@@ -125,13 +117,13 @@ Fails K Err_is.Memory terms programs past r = K terms programs past
 Fails K Err_is.Disk terms programs past (Submits event) = StopsBefore K terms programs past ⊎ StopsWithin K terms programs past event
 Fails K Err_is.Disk terms programs past (Declines answer) = ⊥
 
--- the event may come to the core, and fits the programs
-abbrev pub CanHand : CoordEvent → Terms → OwnPrograms → CoordPast → Type 0
-CanHand event terms programs past = CanStep event terms past × FitsPrograms programs past event
+-- the event may be submitted to the core, and fits the programs
+abbrev pub CanSubmit : CoordEvent → Terms → OwnPrograms → CoordPast → Type 0
+CanSubmit event terms programs past = CanStep event terms past × FitsPrograms programs past event
 
 -- what is asked may be served
 abbrev pub CanServe : Asked → Terms → OwnPrograms → CoordPast → Type 0
-CanServe (Asked_is.Submits event) terms programs past = CanHand event terms programs past
+CanServe (Asked_is.Submits event) terms programs past = CanSubmit event terms programs past
 CanServe (Asked_is.Declines answer) terms programs past = Unit {0}
 
 -- the request of the rules

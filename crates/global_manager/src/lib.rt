@@ -3,13 +3,12 @@
 //! lock use it alike.
 #![tactic(auto)]
 
-mod attempt_commands;
-mod coord_commands;
+mod asks;
 mod looks;
 mod manager;
 mod programs;
 mod requests;
-mod tx_commands;
 
+pub use asks::CoordAsk;
 pub use coord_core::StepErr;
 pub use manager::GlobalManager;

@@ -1,4 +1,4 @@
-//! A global transaction manager, and how it hands events to its core.
+//! A global transaction manager, and how it answers what it is asked.
 ghost use Rattle.std.specs.Prelude.{◌≡◌, [], Bool, IsTrue, IfOk, IfErr};
 ghost use Rattle.mdb_base.specs.Counts.{HasCauseOf};
 ghost use Rattle.mdb_base.specs.Words.{Each};
@@ -7,16 +7,17 @@ ghost use Rattle.record_fields.specs.Named.{IsSite};
 ghost use Rattle.fed_rules.specs.declared.records.CoordRecord.{CoordRecord};
 ghost use Rattle.fed_rules.specs.Found.{Journal};
 ghost use Rattle.fed_rules.specs.Reopened.{opened_coordinator};
-ghost use Rattle.fed_rules.specs.Requests.{Submits};
 ghost use Rattle.journal_disk.specs.Disk.{Seen};
 ghost use Rattle.coord_core.specs.Found.{IsFoundOn, SomeJournal};
 ghost use Rattle.coord_core.specs.Stands.{Holds, IsEmptyDisk, Stands as CoreStands};
-ghost use Rattle.global_manager.specs.Stands.{CanHand, CanServe, EachManaged, Fails, IsDeclared, Recalls, Sends, Serves, SomeManaged, Stands, own_programs, request_of};
+ghost use Rattle.global_manager.specs.Asks.{CanAsk, coord_request};
+ghost use Rattle.global_manager.specs.Stands.{EachManaged, Fails, IsDeclared, Recalls, Serves, SomeManaged, Stands, own_programs};
 
+use crate::asks::CoordAsk;
 use crate::programs::programs_of;
 use crate::requests::Request;
 use coord_core::{CoordCore, StepErr};
-use fed_rules::{Answer, CoordEvent, CoordStep, Sends, TxLine};
+use fed_rules::{Answer, CoordStep, Sends, TxLine};
 use global_exec::TakePolicy;
 use journal_disk::Disk;
 use mdb_base::{Memory, Program, Tx};
@@ -92,42 +93,30 @@ impl<P: TakePolicy> GlobalManager<P> {
         &self.core
     }
 
-    /// The core answers an event that may come there and fits the programs.
-    pub(crate) fn hand<D: Disk>(
+    /// Answers what is asked, as the rules say over the programs and the coordinator's past. A message has to come from one of the
+    /// coordinator's sites. What is declined sends nothing and leaves the past as it is. Out of memory, the manager stands for the same past.
+    /// Where a disk call fails, which comes only where the disk's count of faults rose, the coordinator is down, as after a stop before or
+    /// within the event, and may be started again.
+    pub fn ask<D: Disk>(
         &mut self,
         alloc: Global,
         disk: &mut D,
-        event: CoordEvent,
+        ask: CoordAsk,
     ) -> Result<CoordStep, StepErr>
         requires told { IsTrue D.tells }
-        requires may { SomeManaged (Stands P.policy D.tells self.old (D.seen disk.old)) (CanHand event) }
-        ensures served { IfOk result (λ step. EachManaged (Stands P.policy D.tells self.old (D.seen disk.old))
-            (λ terms programs past. CanHand event terms programs past → Sends (Stands P.policy D.tells self.new (D.seen disk.new)) step terms programs past event)) }
-        ensures failed { IfErr result (λ why. EachManaged (Stands P.policy D.tells self.old (D.seen disk.old))
-            (λ terms programs past. CanHand event terms programs past → Fails (Stands P.policy D.tells self.new (D.seen disk.new)) why terms programs past (Submits event))) }
+        requires stood { SomeManaged (Stands P.policy D.tells self.old (D.seen disk.old)) (CanAsk ask) }
+        ensures served { IfOk result (λ step. EachManaged (Stands P.policy D.tells self.old (D.seen disk.old)) (λ terms programs past. CanAsk ask terms programs past
+            → Serves (Stands P.policy D.tells self.new (D.seen disk.new)) step terms programs past (coord_request ask terms programs past))) }
+        ensures failed { IfErr result (λ why. EachManaged (Stands P.policy D.tells self.old (D.seen disk.old)) (λ terms programs past. CanAsk ask terms programs past
+            → Fails (Stands P.policy D.tells self.new (D.seen disk.new)) why terms programs past (coord_request ask terms programs past))) }
         ensures cause { HasCauseOf StepErr.Disk (D.seen disk.old).faults (D.seen disk.new).faults result }
     {
-        self.core.step(alloc, disk, event)
-    }
-
-    /// Serves a request: the core answers its event.
-    pub(crate) fn serve<D: Disk>(
-        &mut self,
-        alloc: Global,
-        disk: &mut D,
-        request: Request,
-    ) -> Result<CoordStep, StepErr>
-        requires told { IsTrue D.tells }
-        requires may { SomeManaged (Stands P.policy D.tells self.old (D.seen disk.old)) (CanServe request) }
-        ensures served { IfOk result (λ step. EachManaged (Stands P.policy D.tells self.old (D.seen disk.old))
-            (λ terms programs past. CanServe request terms programs past → Serves (Stands P.policy D.tells self.new (D.seen disk.new)) step terms programs past (request_of request))) }
-        ensures failed { IfErr result (λ why. EachManaged (Stands P.policy D.tells self.old (D.seen disk.old))
-            (λ terms programs past. CanServe request terms programs past → Fails (Stands P.policy D.tells self.new (D.seen disk.new)) why terms programs past (request_of request))) }
-        ensures cause { HasCauseOf StepErr.Disk (D.seen disk.old).faults (D.seen disk.new).faults result }
-    {
+        let Ok(request) = self.requested(ask) else {
+            return Err(StepErr::Memory);
+        };
         match request {
             Request::Declines(answer) => Ok(declined(alloc, answer)),
-            Request::Submits(event) => self.hand(alloc, disk, event),
+            Request::Submits(event) => self.core.step(alloc, disk, event),
         }
     }
 }

@@ -4,7 +4,7 @@ ghost use Rattle.actor_tests.specs.GlobalSessions.{IsOfThree};
 
 use fed_rules::{Answer, CoordRecord, CoordStep, FromSite, Sent, ToSite};
 use global_exec::TakePolicy;
-use global_manager::GlobalManager;
+use global_manager::{CoordAsk, GlobalManager};
 use journal_disk::MemDisk;
 use mdb_base::{SiteId, Tid};
 use presumptions::{Decision, Protocol, acks, presumed};
@@ -172,7 +172,11 @@ fn tells<P: TakePolicy>(
     };
     let site = SiteId(place as u8 + 1);
     let inquiry = FromSite::Inquiry { tid: attempt.tid };
-    let step = manager.take(alloc, disk, site, inquiry)?;
+    let ask = CoordAsk::Take {
+        site,
+        message: inquiry,
+    };
+    let step = manager.ask(alloc, disk, ask)?;
     assert!(rt; is_told(attempt, kept, site, protocol, &step));
     Ok(())
 }
@@ -196,7 +200,7 @@ fn sends_again<P: TakePolicy>(
     requires { IsOfThree P.policy manager.old disk.old }
     ensures { OnOk result (IsOfThree P.policy manager.new disk.new) }
 {
-    let step = manager.again(alloc, disk, attempt.tid)?;
+    let step = manager.ask(alloc, disk, CoordAsk::Again(attempt.tid))?;
     assert!(rt; is_sent_again(alloc, attempt, kept, &step)?);
     Ok(())
 }

@@ -1,14 +1,14 @@
 //! How a script is played at a manager on a disk in memory.
-ghost use Rattle.std.specs.Prelude.{◌≡◌, IfOk, OnOk};
+ghost use Rattle.std.specs.Prelude.{◌≡◌, IfOk, IfSome, OnOk};
 ghost use Rattle.mdb_base.specs.Words.{Each, each_of};
 ghost use Rattle.journal_disk.specs.MemDisk.{mem_image};
 ghost use Rattle.journal_disk.specs.Disk.{no_bytes};
-ghost use Rattle.actor_tests.specs.GlobalSessions.{IsOfThree, IsOfThreeSites, is_of_three, three};
+ghost use Rattle.actor_tests.specs.GlobalSessions.{ComesFromThree, IsOfThree, IsOfThreeSites, is_of_three, three};
 
 use crate::answers::is_cut;
 use fed_rules::{Answer, Command, CoordStep, FromSite, Line, Place, Sends, Sent, ToSite, TxLine};
 use global_exec::TakePolicy;
-use global_manager::{GlobalManager, StepErr};
+use global_manager::{CoordAsk, GlobalManager, StepErr};
 use journal_disk::MemDisk;
 use mdb_base::{Act, Key, Program, SiteId, Step, Tx};
 use presumptions::{Participant, Participants, Protocol};
@@ -268,6 +268,32 @@ fn nothing(alloc: Global) -> Result<CoordStep, StepErr> {
     })
 }
 
+// What a command asks of the coordinator, where it asks something. A message is taken of the sites 1 to 3 alone.
+fn asked(channels: &Channels, command: Command) -> Option<CoordAsk>
+    ensures { IfSome result ComesFromThree }
+{
+    match command {
+        Command::Go(tx) => Some(CoordAsk::Go(tx)),
+        Command::Fate(tx) => Some(CoordAsk::Fate(tx)),
+        Command::Again(tid) => Some(CoordAsk::Again(tid)),
+        Command::Late(tid) => Some(CoordAsk::Late(tid)),
+        Command::Take { site, place } => match channels.heard_at(site, place) {
+            Some(message) => {
+                if site.0 < 1 || site.0 > 3 {
+                    return None;
+                }
+                Some(CoordAsk::Take { site, message })
+            }
+            None => None,
+        },
+        Command::Halt { cut, .. } => Some(CoordAsk::Halt { cut }),
+        Command::Trip { calls, cut, .. } => Some(CoordAsk::Trip { calls, cut }),
+        Command::Back { .. } => Some(CoordAsk::Back),
+        Command::Check { .. } => Some(CoordAsk::Check),
+        _ => None,
+    }
+}
+
 /// A manager of the sites 1 to 3 carries a command out.
 pub(super) fn asks<P: TakePolicy>(
     manager: &mut GlobalManager<P>,
@@ -279,25 +305,9 @@ pub(super) fn asks<P: TakePolicy>(
     requires { IsOfThree P.policy manager.old disk.old }
     ensures { IsOfThree P.policy manager.new disk.new }
 {
-    match command {
-        Command::Go(tx) => manager.go(alloc, disk, tx),
-        Command::Fate(tx) => manager.fate(alloc, disk, tx),
-        Command::Again(tid) => manager.again(alloc, disk, tid),
-        Command::Late(tid) => manager.late(alloc, disk, tid),
-        Command::Take { site, place } => match channels.heard_at(site, place) {
-            Some(message) => {
-                if site.0 < 1 || site.0 > 3 {
-                    return nothing(alloc);
-                }
-                manager.take(alloc, disk, site, message)
-            }
-            None => nothing(alloc),
-        },
-        Command::Halt { cut, .. } => manager.halt(alloc, disk, cut),
-        Command::Trip { calls, cut, .. } => manager.trip(alloc, disk, calls, cut),
-        Command::Back { .. } => manager.back(alloc, disk),
-        Command::Check { .. } => manager.check(alloc, disk),
-        _ => nothing(alloc),
+    match asked(channels, command) {
+        Some(ask) => manager.ask(alloc, disk, ask),
+        None => nothing(alloc),
     }
 }
 

@@ -4,6 +4,7 @@ use Rattle.mdb_base.specs.declared.names.SiteId.{SiteId}
 use Rattle.mdb_base.proofs.OptionLaws.{none_left}
 use Rattle.fed_rules.specs.declared.commands.Command.TheVariants as Cmd
 use Rattle.fed_rules.specs.declared.events.CoordEvent.TheVariants as Ev
+use Rattle.global_manager.specs.declared.asks.CoordAsk.TheVariants as Coord
 use Rattle.fed_hosts.specs.declared.coord_actor.CoordTold.{CoordTold}
 use Rattle.fed_hosts.specs.declared.ports.Port.{Port}
 use Rattle.host_laws.specs.CoordHearing.{BearsFrom}
@@ -14,7 +15,7 @@ use Rattle.fed_hosts.specs.Turns.{MakesOne}
 use Rattle.fed_hosts.proofs.CoordHeard.{late_from, unread_from}
 use Rattle.fed_hosts.proofs.CoordSame.{coord_kept_for}
 use Rattle.fed_hosts.proofs.CoordServed.{coord_view_beside}
-use Rattle.fed_hosts.proofs.CoordTurning.{aside_keeps, back_keeps, coord_last_fits, coord_line_ready, coord_take_line, leaves_aside, port_among, unfinished_take, was_put_back}
+use Rattle.fed_hosts.proofs.CoordTurning.{aside_keeps, back_keeps, coord_last_fits, coord_line_ready, coord_take_line, leaves_aside, port_among, stood_managed, unfinished_take, was_put_back}
 use Rattle.fed_hosts.proofs.Faults.{clean}
 use Rattle.fed_hosts.proofs.Polled.{arrived_last, with_inlet}
 use Rattle.fed_hosts.proofs.coord_actor.CoordActor.hear.Goals as goal
@@ -56,24 +57,17 @@ returns-then-envelope-ge-MOST_STAMP-clause-takes g c =
     leaves_aside g.N.Wires.rings g.N.Plan.coordinator old.ports.items c.args.arrived old.lines.items c.requires.keeps.keeps.planned c.requires.arrived.within
     (late_from c.args.arrived.packet c.decode_from.result c.in-Some.envelope c.decode_from.ensures.only c.in-Some.is (omega (arith, c.if-envelope-ge-MOST_STAMP.true)))
 
-pub take-requires-clause-stood : goal.take-requires-clause-stood
-take-requires-clause-stood g c =
-    let test = g.P.TakePolicy.policy in
-    let tells = g.D.Disk.tells in
-    let seen = g.D.Disk.seen in
+pub ask-requires-clause-stood : goal.ask-requires-clause-stood
+ask-requires-clause-stood g c =
     let plan = g.N.Plan.coordinator in
     let rings = g.N.Wires.rings in
     let arrived = c.args.arrived in
-    let old = c.args.self.now in
     let held = c.requires.keeps in
-    let k = held.keeps in
-    let past = coord_past_of plan k.turns in
     let ports = c.args.self.now.ports.items in
     let from : Port = c.index.result.now in
     let at : slice_get ports arrived.place ≡ Some from = slice_get_read ports (length ports) arrived.place from refl c.requires.arrived.within c.index.ensures in
-    let among = port_among rings plan ports arrived.place from k.planned at in
-    let envelope = c.in-Some.envelope in
-    record { terms = plan.terms; programs = plan.programs; past = past; stood = k.standing; holds = among }
+    stood_managed g.P.TakePolicy.policy g.D.Disk.tells g.D.Disk.seen plan rings held.before c.args.self.now (Coord.Take from.ends.site c.in-Some.envelope.message) held.keeps
+    (port_among rings plan ports arrived.place from held.keeps.planned at)
 
 pub carry-requires-clause-room : goal.carry-requires-clause-room
 carry-requires-clause-room g c = record { lines = c.requires.room.lines; ports = c.requires.room.ports; places = c.requires.room.places }
@@ -96,9 +90,9 @@ carry-requires-clause-ready g c =
     let among = port_among rings plan ports arrived.place from k.planned at in
     let envelope = c.in-Some.envelope in
     let step = c.in-Ok.step in
-    let mid = record old { manager = c.take.new.self; disk = c.take.new.disk } in
+    let mid = record old { manager = c.ask.new.self; disk = c.ask.new.disk } in
     let told : CoordTold = record { command = Cmd.Take from.ends.site envelope.index; answer = step.answer; sends = step.sends; after = envelope.stamp } in
-    coord_line_ready mid plan k.turns told (coord_kept_for old c.take.new.self c.take.new.disk plan k.turns k.kept) (record { lines = c.requires.room.lines; ports = c.requires.room.ports; places = c.requires.room.places })
+    coord_line_ready mid plan k.turns told (coord_kept_for old c.ask.new.self c.ask.new.disk plan k.turns k.kept) (record { lines = c.requires.room.lines; ports = c.requires.room.ports; places = c.requires.room.places })
     (omega (arith, c.if-envelope-ge-MOST_STAMP.false))
 
 pub carry-requires-clause-last : goal.carry-requires-clause-last
@@ -154,8 +148,8 @@ returns-in-Ok-clause-keeps g c =
     let bears : BearsFrom arrived.packet envelope = record { in_range = c.in-Some.ensures.in_range; spelled = c.in-Some.ensures.spelled; small = omega (arith, c.if-envelope-ge-MOST_STAMP.false) } in
     let sends = c.in-Ok.ensures.served plan.terms plan.programs past k.standing among in
     let told : CoordTold = record { command = Cmd.Take from.ends.site envelope.index; answer = step.answer; sends = step.sends; after = envelope.stamp } in
-    let line = coord_take_line test tells seen plan rings old c.take.new.self c.take.new.disk c.carry.new.self c.requires.few (clean _ _ step c.in-Ok.ensures.cause) c.carry.ensures.beside c.carry.ensures.moved_on arrived held from envelope step at bears sends told refl
-    (c.carry.ensures.carried tells (seen c.take.new.disk)) in
+    let line = coord_take_line test tells seen plan rings old c.ask.new.self c.ask.new.disk c.carry.new.self c.requires.few (clean _ _ step c.in-Ok.ensures.cause) c.carry.ensures.beside c.carry.ensures.moved_on arrived held from envelope step at bears sends told refl
+    (c.carry.ensures.carried tells (seen c.ask.new.disk)) in
     line.keeps
 
 pub returns-in-Ok-clause-takes : goal.returns-in-Ok-clause-takes
@@ -179,8 +173,8 @@ returns-in-Ok-clause-takes g c =
     let bears : BearsFrom arrived.packet envelope = record { in_range = c.in-Some.ensures.in_range; spelled = c.in-Some.ensures.spelled; small = omega (arith, c.if-envelope-ge-MOST_STAMP.false) } in
     let sends = c.in-Ok.ensures.served plan.terms plan.programs past k.standing among in
     let told : CoordTold = record { command = Cmd.Take from.ends.site envelope.index; answer = step.answer; sends = step.sends; after = envelope.stamp } in
-    let line = coord_take_line test tells seen plan rings old c.take.new.self c.take.new.disk c.carry.new.self c.requires.few (clean _ _ step c.in-Ok.ensures.cause) c.carry.ensures.beside c.carry.ensures.moved_on arrived held from envelope step at bears sends told refl
-    (c.carry.ensures.carried tells (seen c.take.new.disk)) in
+    let line = coord_take_line test tells seen plan rings old c.ask.new.self c.ask.new.disk c.carry.new.self c.requires.few (clean _ _ step c.in-Ok.ensures.cause) c.carry.ensures.beside c.carry.ensures.moved_on arrived held from envelope step at bears sends told refl
+    (c.carry.ensures.carried tells (seen c.ask.new.disk)) in
     let p = k.planned.each arrived.place from at in
     record {
       member = p.member;
@@ -191,7 +185,7 @@ returns-in-Ok-clause-takes g c =
     }
 
 pub returns-in-Ok-clause-others : goal.returns-in-Ok-clause-others
-returns-in-Ok-clause-others g c = coord_view_beside (record c.args.self.now { manager = c.take.new.self; disk = c.take.new.disk }) c.carry.new.self c.carry.ensures.beside
+returns-in-Ok-clause-others g c = coord_view_beside (record c.args.self.now { manager = c.ask.new.self; disk = c.ask.new.disk }) c.carry.new.self c.carry.ensures.beside
 
 pub returns-in-Err-clause-failed : goal.returns-in-Err-clause-failed
 returns-in-Err-clause-failed g c =
@@ -216,7 +210,7 @@ returns-in-Err-clause-failed g c =
     let same : port ≡ from = same_Some port from (sym there ∙ at) in
     let unfinished = subst (λ (other : Port). IsCoordUnfinished plan (backs_of (slice_set ports arrived.place (with_inlet port c.put_back.new.self))) k.turns (Ev.Take other.ends.site envelope.message)) same
     (unfinished_take test tells seen plan rings ports k.turns arrived port c.put_back.new.self envelope k.planned c.requires.arrived.within there c.put_back.ensures.back bears) in
-    back_keeps test tells seen plan rings arrived old held c.take.new.self c.take.new.disk _ c.in-Err.why (Ev.Take from.ends.site envelope.message)
+    back_keeps test tells seen plan rings arrived old held c.ask.new.self c.ask.new.disk _ c.in-Err.why (Ev.Take from.ends.site envelope.message)
     (was_put_back ports arrived port c.put_back.new.self c.requires.arrived.within there c.put_back.ensures.ring c.put_back.ensures.taken) unfinished
     (c.in-Err.ensures.failed plan.terms plan.programs past k.standing among) c.in-Err.ensures.cause
 

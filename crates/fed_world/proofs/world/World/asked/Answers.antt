@@ -3,7 +3,7 @@ use Rattle.fed_rules.specs.declared.commands.Command.TheVariants as Cmd
 use Rattle.fed_rules.specs.Story.{story_in}
 use Rattle.fed_world.proofs.SessionRuns.{none_sent}
 use Rattle.fed_world.specs.declared.asks.Asked.TheVariants.{Coordinator}
-use Rattle.fed_world.specs.declared.asks.CoordAsk.TheVariants as Coord
+use Rattle.global_manager.specs.declared.asks.CoordAsk.TheVariants as Coord
 use Rattle.fed_world.proofs.Asking.{abort_asked, again_asked, ask_asked, asked_same, back_asked, begin_asked, check_asked, commit_asked, drop_asked, fate_asked, give_asked, go_asked, halt_asked, late_asked, step_asked, take_asked, trip_asked}
 use Rattle.fed_world.proofs.world.World.asked.Goals as goal
 

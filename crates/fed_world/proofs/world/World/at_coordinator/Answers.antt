@@ -2,7 +2,7 @@ use Rattle.std.proofs.Common.{◌∙◌, map, slice_set, refl, sym, subst, arith
 use Rattle.std.proofs.lemmas.List.{length-map}
 use Rattle.fed_world.specs.declared.errors.WorldErr.{WorldErr}
 use Rattle.fed_world.specs.Faults.{FailedAs}
-use Rattle.fed_world.proofs.CoordHeard.{fails_told, few_messages, first_disk, hears_told, may_tell_coord, roomed_stands}
+use Rattle.fed_world.proofs.CoordHeard.{fails_told, few_messages, first_disk, hears_told, may_ask_coord, roomed_stands}
 use Rattle.fed_world.proofs.Disks.{seen_put}
 use Rattle.fed_world.proofs.Growing.{few_commands}
 use Rattle.fed_world.proofs.Faults.{failure_told, line_told}
@@ -34,14 +34,14 @@ index_mut-requires g c =
     let size = c.args.disks.now.ok.0 in
     omega (arith, nine, seen, size)
 
-pub tell_coordinator-requires-clause-told : goal.tell_coordinator-requires-clause-told
-tell_coordinator-requires-clause-told g c = c.requires.told
+pub ask-requires-clause-told : goal.ask-requires-clause-told
+ask-requires-clause-told g c = c.requires.told
 
-pub tell_coordinator-requires-clause-stood : goal.tell_coordinator-requires-clause-stood
-tell_coordinator-requires-clause-stood g c =
+pub ask-requires-clause-stood : goal.ask-requires-clause-stood
+ask-requires-clause-stood g c =
     let r = c.requires.stood in
     let at = first_disk g.D.Disk.seen c.args.disks.now.items c.index_mut.result.now r.session r.stood.stand.others c.index_mut.ensures.value in
-    may_tell_coord g.D.Disk.tells c.args.self.now (map g.D.Disk.seen c.args.disks.now.items) r.session r.commands r.stood.stand (g.D.Disk.seen c.index_mut.result.now) (g.D.Disk.seen c.index_mut.result.now) at c.args.ask r.command r.asks
+    may_ask_coord g.D.Disk.tells c.args.self.now (map g.D.Disk.seen c.args.disks.now.items) r.session r.commands r.stood.stand (g.D.Disk.seen c.index_mut.result.now) (g.D.Disk.seen c.index_mut.result.now) at c.args.ask r.command r.asks
 
 pub post-requires-clause-room : goal.post-requires-clause-room
 post-requires-clause-room g c = c.in-Ok-make_room.ensures.room
@@ -65,28 +65,28 @@ post-requires-clause-few g c =
 pub as_slice-requires : goal.as_slice-requires
 as_slice-requires g c = search rules
 
-pub returns-in-Ok-tell_coordinator-clause-heard : goal.returns-in-Ok-tell_coordinator-clause-heard
-returns-in-Ok-tell_coordinator-clause-heard g c session commands command s asks room =
+pub returns-in-Ok-ask-clause-heard : goal.returns-in-Ok-ask-clause-heard
+returns-in-Ok-ask-clause-heard g c session commands command s asks room =
     let at = first_disk g.D.Disk.seen c.args.disks.now.items c.index_mut.result.now session s.stand.others c.index_mut.ensures.value in
-    hears_told g.D.Disk.tells c.args.self.now (map g.D.Disk.seen c.args.disks.now.items) session commands s.stand (g.D.Disk.seen c.index_mut.result.now) (g.D.Disk.seen c.tell_coordinator.new.disk) at c.args.ask command asks
-    s.has.begins _ _ c.make_room.new.traffic.items c.as_slice.result.now c.in-Ok-tell_coordinator.step _ (seen_put g.D.Disk.seen c.args.disks.now.items 0 c.tell_coordinator.new.disk)
-    (record { cores_are = refl; marks_are = refl; room = c.make_room.ensures.same; posted = c.post.ensures.posted }) c.as_slice.ensures.items c.in-Ok-tell_coordinator.ensures.served c.as_slice.ensures.rising refl (c.taken.ensures.taken ∙ c.post.ensures.places)
+    hears_told g.D.Disk.tells c.args.self.now (map g.D.Disk.seen c.args.disks.now.items) session commands s.stand (g.D.Disk.seen c.index_mut.result.now) (g.D.Disk.seen c.ask.new.disk) at c.args.ask command asks
+    s.has.begins _ _ c.make_room.new.traffic.items c.as_slice.result.now c.in-Ok-ask.step _ (seen_put g.D.Disk.seen c.args.disks.now.items 0 c.ask.new.disk)
+    (record { cores_are = refl; marks_are = refl; room = c.make_room.ensures.same; posted = c.post.ensures.posted }) c.as_slice.ensures.items c.in-Ok-ask.ensures.served c.as_slice.ensures.rising refl (c.taken.ensures.taken ∙ c.post.ensures.places)
 
-pub returns-in-Ok-tell_coordinator-clause-keeps : goal.returns-in-Ok-tell_coordinator-clause-keeps
-returns-in-Ok-tell_coordinator-clause-keeps g c = record { lines = refl; broken = refl; routes = refl; scenario = refl; begun = refl }
+pub returns-in-Ok-ask-clause-keeps : goal.returns-in-Ok-ask-clause-keeps
+returns-in-Ok-ask-clause-keeps g c = record { lines = refl; broken = refl; routes = refl; scenario = refl; begun = refl }
 
-pub returns-in-Ok-tell_coordinator-clause-cause : goal.returns-in-Ok-tell_coordinator-clause-cause
-returns-in-Ok-tell_coordinator-clause-cause g c =
+pub returns-in-Ok-ask-clause-cause : goal.returns-in-Ok-ask-clause-cause
+returns-in-Ok-ask-clause-cause g c =
     let r = c.requires.stood in
     let at = first_disk g.D.Disk.seen c.args.disks.now.items c.index_mut.result.now r.session r.stood.stand.others c.index_mut.ensures.value in
-    line_told (map g.D.Disk.seen c.args.disks.now.items) _ 0 (g.D.Disk.seen c.index_mut.result.now) (g.D.Disk.seen c.tell_coordinator.new.disk) at
-    (seen_put g.D.Disk.seen c.args.disks.now.items 0 c.tell_coordinator.new.disk) _ c.in-Ok-tell_coordinator.step refl c.in-Ok-tell_coordinator.ensures.cause
+    line_told (map g.D.Disk.seen c.args.disks.now.items) _ 0 (g.D.Disk.seen c.index_mut.result.now) (g.D.Disk.seen c.ask.new.disk) at
+    (seen_put g.D.Disk.seen c.args.disks.now.items 0 c.ask.new.disk) _ c.in-Ok-ask.step refl c.in-Ok-ask.ensures.cause
 
 pub returns-clause-failed : goal.returns-clause-failed
 returns-clause-failed g c session commands command s asks room =
     let at = first_disk g.D.Disk.seen c.args.disks.now.items c.index_mut.result.now session s.stand.others c.index_mut.ensures.value in
-    fails_told g.D.Disk.tells c.args.self.now (map g.D.Disk.seen c.args.disks.now.items) session commands s.stand (g.D.Disk.seen c.index_mut.result.now) (g.D.Disk.seen c.tell_coordinator.new.disk) at c.args.ask command asks
-    c.in-Err.why c.world_err.result _ _ c.world_err.ensures (seen_put g.D.Disk.seen c.args.disks.now.items 0 c.tell_coordinator.new.disk)
+    fails_told g.D.Disk.tells c.args.self.now (map g.D.Disk.seen c.args.disks.now.items) session commands s.stand (g.D.Disk.seen c.index_mut.result.now) (g.D.Disk.seen c.ask.new.disk) at c.args.ask command asks
+    c.in-Err.why c.world_err.result _ _ c.world_err.ensures (seen_put g.D.Disk.seen c.args.disks.now.items 0 c.ask.new.disk)
     (record { cores_are = refl; marks_are = refl; channels_are = c.make_room.ensures.same }) c.in-Err.ensures.failed
 
 pub returns-clause-keeps : goal.returns-clause-keeps
@@ -96,6 +96,6 @@ pub returns-clause-cause : goal.returns-clause-cause
 returns-clause-cause g c =
     let r = c.requires.stood in
     let at = first_disk g.D.Disk.seen c.args.disks.now.items c.index_mut.result.now r.session r.stood.stand.others c.index_mut.ensures.value in
-    subst (λ (why : WorldErr). FailedAs why (map g.D.Disk.seen c.args.disks.now.items) (map g.D.Disk.seen (slice_set c.args.disks.now.items 0 c.tell_coordinator.new.disk))) (sym c.world_err.ensures)
-    (failure_told (map g.D.Disk.seen c.args.disks.now.items) _ 0 (g.D.Disk.seen c.index_mut.result.now) (g.D.Disk.seen c.tell_coordinator.new.disk) at
-    (seen_put g.D.Disk.seen c.args.disks.now.items 0 c.tell_coordinator.new.disk) _ c.in-Err.why refl c.in-Err.ensures.cause)
+    subst (λ (why : WorldErr). FailedAs why (map g.D.Disk.seen c.args.disks.now.items) (map g.D.Disk.seen (slice_set c.args.disks.now.items 0 c.ask.new.disk))) (sym c.world_err.ensures)
+    (failure_told (map g.D.Disk.seen c.args.disks.now.items) _ 0 (g.D.Disk.seen c.index_mut.result.now) (g.D.Disk.seen c.ask.new.disk) at
+    (seen_put g.D.Disk.seen c.args.disks.now.items 0 c.ask.new.disk) _ c.in-Err.why refl c.in-Err.ensures.cause)

@@ -2,7 +2,7 @@ use Rattle.std.proofs.Common.{Option, ap, ◌∙◌}
 use Rattle.mdb_base.specs.declared.names.SiteId.{SiteId}
 use Rattle.local_dbms.specs.declared.asks.SiteAsk.TheVariants as At
 use Rattle.fed_world.specs.declared.asks.Asked.TheVariants.{Coordinator}
-use Rattle.fed_world.specs.declared.asks.CoordAsk.TheVariants as Coord
+use Rattle.global_manager.specs.declared.asks.CoordAsk.TheVariants as Coord
 use Rattle.fed_world.specs.Hearers.{to_home}
 use Rattle.fed_world.proofs.world.World.of_fate.Goals as goal
 

@@ -4,7 +4,7 @@ use Rattle.fed_rules.specs.declared.events.CoordEvent.{CoordEvent}
 use Rattle.fed_rules.specs.declared.events.CoordEvent.TheVariants as Ev
 use Rattle.fed_rules.specs.CoordPast.{attempts_of}
 use Rattle.fed_rules.specs.Requests.{Submits, Declines, attempt}
-use Rattle.global_manager.specs.Stands.{CanHand}
+use Rattle.global_manager.specs.Stands.{CanSubmit}
 use Rattle.global_manager.proofs.Asked.{go_none, go_spent, go_submits}
 use Rattle.global_manager.proofs.Fit.{can_go}
 use Rattle.global_manager.proofs.manager.GlobalManager.asks_go.Goals as goal
@@ -42,5 +42,5 @@ returns-clause-may g c terms programs past r =
     let few : attempts_of past tx < 32 = (let most = c.if-begun-ge-MOST_ATTEMPTS.false in omega arith) in
     let event : Ev.Go (attempt tx c.begun-begun.result) c.in_ok-program.program ≡ Ev.Go (attempt tx (attempts_of past tx)) steps =
     ap (λ (n : ℕ). Ev.Go (attempt tx n) c.in_ok-program.program) is ∙ ap (λ ss. Ev.Go (attempt tx (attempts_of past tx)) ss) c.in_ok-program.ensures.cases in
-    let H : CoordEvent → Type 0 = λ e. CanHand e terms programs past in
+    let H : CoordEvent → Type 0 = λ e. CanSubmit e terms programs past in
     subst H (sym event) (can_go g.P.TakePolicy.policy c.args.self.now terms programs past r tx steps own few)

@@ -4,11 +4,11 @@ use Rattle.coord_core.specs.Stands.{Steps}
 use Rattle.coord_core.specs.Steps.{CanStep}
 use Rattle.coord_tables.specs.Terms.{line_of}
 use Rattle.coord_core.proofs.Events.{awake_steps, fate_steps}
-use Rattle.coord_core.proofs.coord.CoordCore.serve.Goals as goal
+use Rattle.coord_core.proofs.coord.CoordCore.step.Goals as goal
 
 pub returns-in-Fate-clause-answered : goal.returns-in-Fate-clause-answered
 returns-in-Fate-clause-answered g c = λ terms past k can.
-    fate_steps g.P.TakePolicy.policy g.D.Disk.tells c.fate.result c.args.self.now c.args.self.now (g.D.Disk.seen c.args.disk.now) terms past c.args.event c.in-Fate.tx c.in-Fate.is k c.requires.up (c.fate.ensures terms past k.holds) refl
+    fate_steps g.P.TakePolicy.policy g.D.Disk.tells c.fate.result c.args.self.now c.args.self.now (g.D.Disk.seen c.args.disk.now) terms past c.args.event c.in-Fate.tx c.in-Fate.is k c.in-Up.is (c.fate.ensures terms past k.holds) refl
 
 pub returns-in-Trip-clause-answered : goal.returns-in-Trip-clause-answered
 returns-in-Trip-clause-answered g c = λ terms past k can.
@@ -17,7 +17,7 @@ returns-in-Trip-clause-answered g c = λ terms past k can.
 
 pub returns-in-Back-clause-answered : goal.returns-in-Back-clause-answered
 returns-in-Back-clause-answered g c = λ terms past k can.
-    awake_steps g.P.TakePolicy.policy g.D.Disk.tells c.silent.result c.args.self.now c.args.self.now (g.D.Disk.seen c.args.disk.now) terms past c.args.event c.in-Back.is k c.requires.up c.silent.ensures.answer c.silent.ensures.sends refl
+    awake_steps g.P.TakePolicy.policy g.D.Disk.tells c.silent.result c.args.self.now c.args.self.now (g.D.Disk.seen c.args.disk.now) terms past c.args.event c.in-Back.is k c.in-Up.is c.silent.ensures.answer c.silent.ensures.sends refl
 
 pub returns-in-Ok-clause-answered : goal.returns-in-Ok-clause-answered
 returns-in-Ok-clause-answered g c = λ terms past k can.
