@@ -16,14 +16,26 @@ of every actor. Of each run it checks that
 
 It ends with status 1 at the first run that isn't so, and prints its scenario and its output.
 
-With `--count` it counts how much of a run is done in its threads, and checks nothing but the status: N runs each, by default 20, of
-examples/threads.run and examples/threads_usual.run, and N runs, by default 100, of scenarios that are drawn here without lost messages and
-stops, with the usual clients, turns and tries. For each it prints
+With `--count` it counts how much of a run is done in its threads, and in how many lines: N runs each, by default 20, of
+examples/threads.run and examples/threads_usual.run, and N runs, by default 100, of scenarios that are drawn here, the same for the same seed,
+without lost messages and stops. For each of the three it prints
 
   - how many of the global transactions a client was told the commit of, so in the threads, and how many committed in an attempt that the
-    threads may begin, one of the first 31;
-  - how many lines a run has, and how many of those that it may have: each thread makes `turns` calls at most;
+    threads may begin, one of the first 31. Of the second some may have been finished alone, behind the threads;
+  - how many attempts of all transactions were begun, and of one at most;
+  - how many lines a run has, and the greatest share of those that it may have: the coordinator, each site and each client has a thread of
+    `turns` calls at most, each of which makes one line, beside the trip of a scripted stop. Those of closing and finishing alone are counted too;
   - how many attempts were given up (`decides abort late`), and how long a run takes.
+
+Last it prints the greatest share of all runs. It ends with status 1 where the status of a run isn't 0, where a run takes more than a tenth of
+the lines that it may have, or where too few globals were told committed in the threads: of 60 in threads.run fewer than 58, of 60 in
+threads_usual.run fewer than 50, and of the drawn ones fewer than nine of ten.
+
+What is drawn for it: one to five sites of all engines and protocols; two to forty transactions, about half of them local, of two to six steps on
+two to twelve rows of a site, so that they contend; and settings in proportion to the transactions, as one would give them to so many. `turns` is
+a hundred for each transaction, and the usual 1,000 at least: the coordinator's thread takes each message of each attempt, some twenty of one, and
+a turn that finds no message counts too. `tries` is drawn from 4, the usual number, to 16, the most, since a run should keep to its tenth however
+soon an attempt is given up. The clients are the usual four.
 
 Under `taskset -c 0,1` it counts the same on two processors.
 """
@@ -40,6 +52,15 @@ PROTOCOLS = ("nothing", "abort", "commit")
 SECONDS = 120
 # The hosts of a run begin so many attempts of a transaction at most; one more is left for finishing it alone.
 THREADS_BEGIN = 31
+# The settings of a run where its scenario says nothing of them.
+USUAL = {"clients": 4, "turns": 1000, "tries": 4}
+# What each thread of a drawn scenario has for each transaction, and the most that a scenario may say of `tries`.
+CALLS_EACH, MOST_TRIES = 100, 16
+# A run takes at most this share of the lines that it may have.
+MOST_SHARE = 0.1
+# So many of so many globals are told committed in the threads, at least.
+EXAMPLES = {"threads.run": (58, 60), "threads_usual.run": (50, 60)}
+DRAWN = (9, 10)
 
 SIX = """site 1 locking nothing
 site 2 timestamp abort
@@ -84,15 +105,22 @@ def fate_of(draw):
     return draw.choice(["drop", "twice", f"hold:{draw.randint(1, 8)}"])
 
 
+def settings_of(draw, transactions):
+    """Settings in proportion to so many transactions."""
+    turns = max(USUAL["turns"], CALLS_EACH * transactions)
+    return [f"turns {turns}", f"tries {draw.randint(USUAL['tries'], MOST_TRIES)}"]
+
+
 def scenario_of(seed, calm=False):
-    """A scenario, the same for the same seed. A calm one loses nothing, has no stops, and runs with the usual settings."""
+    """A scenario, the same for the same seed. A calm one loses nothing, has no stops, and has settings in proportion to its transactions."""
     draw = random.Random(seed)
     count, keys = draw.randint(1, 5), draw.randint(2, 12)
     sites = sorted(draw.sample(range(1, 9), count))
     lines = [f"policy {draw.choice(['always', 'conservative'])}"] if draw.random() < 0.5 else []
     lines += [f"site {site} {draw.choice(ENGINES)} {draw.choice(PROTOCOLS)}" for site in sites]
     lines += [f"item {site} {key} {draw.randrange(1000)}" for site in sites for key in range(keys) if draw.random() < 0.3]
-    for tx in range(1, draw.randint(2, 40) + 1):
+    transactions = draw.randint(2, 40)
+    for tx in range(1, transactions + 1):
         if draw.random() < 0.5:
             at = draw.choice(sites)
             lines.append(f"local {tx} {at} " + " ".join(step for _, step in steps_of(draw, [at], keys)))
@@ -100,7 +128,7 @@ def scenario_of(seed, calm=False):
             among = draw.sample(sites, draw.randint(1, count))
             lines.append(f"global {tx} " + " ".join(f"{at}/{step}" for at, step in steps_of(draw, among, keys)))
     if calm:
-        return "\n".join(lines) + "\n"
+        return "\n".join(lines + settings_of(draw, transactions)) + "\n"
     lines += [f"clients {draw.randint(1, 16)}", f"turns {draw.choice([1, 10, 100, 1000])}", f"tries {draw.randint(1, 16)}"]
     places = {(way, site, draw.randrange(20)) for site in sites for way in ("to", "from") for _ in range(draw.randint(0, 4))}
     lines += [f"link {way} {site} {place} {fate_of(draw)}" for way, site, place in sorted(places)]
@@ -175,8 +203,8 @@ class Count:
     """What the runs of one kind did in their threads."""
 
     def __init__(self):
-        self.globals = self.told = self.early = self.late = 0
-        self.lines, self.parts, self.seconds = [], [], []
+        self.transactions = self.globals = self.told = self.early = self.begun = self.most = self.late = 0
+        self.lines, self.shares, self.seconds = [], [], []
 
     def add(self, scenario, output, seconds):
         """Adds a run."""
@@ -185,36 +213,51 @@ class Count:
         told = {command.split()[1] for command, answer in lines if command.startswith("fate ") and answer.startswith("committed")}
         outcomes = [line.split() for line in output.splitlines() if line.startswith("outcome ") and line.endswith(" commit")]
         early = {words[1].split(".")[0] for words in outcomes if int(words[1].split(".")[1]) < THREADS_BEGIN}
+        begun = [int(answer.split()[1].split(".")[1]) for _, answer in lines if answer.startswith("begun ")]
+        self.transactions += sum(line.split()[0] in ("local", "global") for line in scenario.splitlines())
         self.globals += len(declared)
         self.told += len(declared & told)
         self.early += len(declared & early)
+        self.begun += len(begun)
+        self.most = max([self.most] + [attempt + 1 for attempt in begun])
         self.late += sum(answer.startswith("decides abort late") for _, answer in lines)
         self.lines.append(len(lines))
-        self.parts.append(len(lines) / most_lines(scenario))
+        self.shares.append(len(lines) / most_lines(scenario))
         self.seconds.append(seconds)
 
     def __str__(self):
         runs = len(self.lines)
         return (
             f"{runs} runs, {self.told} of {self.globals} globals were told committed in threads, {self.early} before attempt {THREADS_BEGIN}; "
-            f"{min(self.lines)} to {max(self.lines)} lines, {sum(self.lines) // runs} on average, at most {max(self.parts):.1%} of what a run may have; "
+            f"{self.begun} attempts of {self.transactions} transactions, of one at most {self.most}; "
+            f"{min(self.lines)} to {max(self.lines)} lines, {sum(self.lines) // runs} on average, at most {max(self.shares):.1%} of what a run may have; "
             f"{self.late} attempts given up; {sum(self.seconds) / runs:.3f} s a run, at most {max(self.seconds):.3f}"
         )
 
+    def faults(self, goal):
+        """What isn't as it should be."""
+        least, among = goal
+        found = []
+        if self.told * among < least * self.globals:
+            found.append(f"fewer than {least} of {among} globals were told committed in threads")
+        if max(self.shares) > MOST_SHARE:
+            found.append(f"a run takes more than {MOST_SHARE:.0%} of the lines that it may have")
+        return found
 
-def setting(scenario, word, usual):
+
+def setting(scenario, word):
     """The value of a setting of the scenario."""
-    return next((int(line.split()[1]) for line in scenario.splitlines() if line.startswith(word + " ")), usual)
+    return next((int(line.split()[1]) for line in scenario.splitlines() if line.startswith(word + " ")), USUAL[word])
 
 
 def most_lines(scenario):
     """How many calls the threads of a run make at most: `turns` for the coordinator, each site and each client."""
     sites = sum(line.startswith("site ") for line in scenario.splitlines())
-    return (1 + sites + setting(scenario, "clients", 4)) * setting(scenario, "turns", 1000)
+    return (1 + sites + setting(scenario, "clients")) * setting(scenario, "turns")
 
 
-def count_runs(name, program, scenarios):
-    """Runs these scenarios, and prints what they did in their threads."""
+def count_runs(name, program, scenarios, goal):
+    """Runs these scenarios, and prints what they did. Answers their greatest share of lines, and whether all is as it should be."""
     count = Count()
     for scenario in scenarios:
         began = time.monotonic()
@@ -223,18 +266,27 @@ def count_runs(name, program, scenarios):
             print(f"{scenario}\n-- prints --\n{output}\n-- status {status}")
             sys.exit(1)
         count.add(scenario, output, time.monotonic() - began)
-    if count.lines:
-        print(f"{name}: {count}", flush=True)
+        if count.shares[-1] > MOST_SHARE:
+            print(f"{scenario}-- takes {count.lines[-1]} lines, {count.shares[-1]:.1%} of those that it may have")
+    if not count.lines:
+        return 0, True
+    print(f"{name}: {count}", flush=True)
+    faults = count.faults(goal)
+    for fault in faults:
+        print(f"{name}: {fault}", flush=True)
+    return max(count.shares), not faults
 
 
 def count_all(words):
-    """What the examples and drawn scenarios without losses do in their threads."""
+    """What the examples and drawn scenarios without losses do in their threads. Answers whether all is as it should be."""
     six = 20 if words.six is None else words.six
     made = 100 if words.made is None else words.made
-    for name in ("threads.run", "threads_usual.run"):
-        count_runs(name, words.program, [(TOP / "examples" / name).read_text()] * six)
+    kinds = [(name, [(TOP / "examples" / name).read_text()] * six, goal) for name, goal in EXAMPLES.items()]
     calm = [scenario_of(words.seed * 100_000 + at, calm=True) for at in range(made)]
-    count_runs("drawn scenarios without losses", words.program, calm)
+    kinds.append(("drawn scenarios without losses", calm, DRAWN))
+    counted = [count_runs(name, words.program, scenarios, goal) for name, scenarios, goal in kinds]
+    print(f"the greatest share of the lines that a run may have: {max(share for share, _ in counted):.1%}")
+    return all(good for _, good in counted)
 
 
 def main():
@@ -249,8 +301,7 @@ def main():
         print(f"{words.program} isn't there: build it by `rt run` in crates/mdbfed")
         sys.exit(2)
     if words.count:
-        count_all(words)
-        return
+        sys.exit(0 if count_all(words) else 1)
     six = 200 if words.six is None else words.six
     made = 100 if words.made is None else words.made
     check_runs("six transactions", words.program, [SIX] * six, SIX_TABLES)

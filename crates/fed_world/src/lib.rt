@@ -10,13 +10,13 @@ mod found_begun;
 mod found_reporting;
 mod found_sites;
 mod gathering;
+mod heard;
 mod hearing;
 mod reading;
 mod reopening;
 mod reporting;
 mod seats;
 mod setting_up;
-mod heard;
 mod world;
 
 pub use cores::{Cores, SiteCores};

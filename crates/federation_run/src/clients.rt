@@ -2,6 +2,7 @@
 ghost use Rattle.std.specs.Prelude.{◌≡◌, ◌≤◌, IfOk, length};
 
 use crate::doors::{CoordLock, SiteLock};
+use crate::drives::Drive;
 use crate::hosts::Hosts;
 use client_drivers::{DoorErr, Driven, drive_global, drive_local};
 use fed_hosts::{Gate, Plan};
@@ -52,7 +53,7 @@ pub(crate) fn rides_of(alloc: Global, scenario: &Scenario) -> Result<Rides, Memo
     })
 }
 
-/// Drives one transaction with what is left of a client's calls.
+/// Drives one transaction with what is left of a client's calls. A global one isn't driven where the coordinator takes no further turn.
 fn drive<R: Wait, D: Disk, G: Gate, N: Plan>(
     rt: &R,
     hosts: &Hosts<D, N>,
@@ -71,24 +72,32 @@ fn drive<R: Wait, D: Disk, G: Gate, N: Plan>(
                     committed: false,
                 });
             };
-            let moves = hosts.moves;
             let mut door = SiteLock {
                 rt,
                 host,
                 gate,
-                moves,
-                site,
+                drive: Drive::new(hosts.moves, site.0),
             };
-            drive_local(&mut door, ride.tx, tries, left)
+            let driven = drive_local(&mut door, ride.tx, tries, left);
+            door.drive.end();
+            driven
         }
         None => {
+            if hosts.moves.has_ended(0) {
+                return Ok(Driven {
+                    used: 0,
+                    committed: false,
+                });
+            }
             let mut door = CoordLock {
                 rt,
                 host: hosts.coordinator,
                 gate,
-                moves: hosts.moves,
+                drive: Drive::new(hosts.moves, 0),
             };
-            drive_global(&mut door, ride.tx, tries, left)
+            let driven = drive_global(&mut door, ride.tx, tries, left);
+            door.drive.end();
+            driven
         }
     }
 }

@@ -1,23 +1,16 @@
-//! The doors of hosts that lie behind locks. A client that got nowhere leaves its processor to others for a while (`moves`).
+//! The doors of hosts that lie behind locks. A client that got nowhere, or that begins again, leaves its processor to others for a while
+//! (`drives`).
 ghost use Rattle.std.specs.Prelude.{List};
 ghost use Rattle.client_drivers.specs.Calls.{Called};
 
-use crate::moves::Moves;
+use crate::drives::Drive;
 use any_engine::AnyEngine;
 use client_drivers::{Answer, CoordDoor, DoorErr, SiteDoor};
 use conservative_take::AnyPolicy;
 use fed_hosts::{CoordHost, Gate, Plan, SiteHost};
 use journal_disk::Disk;
-use mdb_base::{SiteId, Tid, Tx};
+use mdb_base::{Tid, Tx};
 use std::sync::{Mutex, Wait};
-
-/// Whether a call got nowhere: the attempt still runs or waits, or the actor is down.
-fn got_nowhere(answer: &Result<Answer, DoorErr>) -> bool {
-    match answer {
-        Ok(Answer::Running(_)) | Ok(Answer::Waits(_)) | Ok(Answer::Down) => true,
-        _ => false,
-    }
-}
 
 /// The door of a site's host. Each call takes the host's lock, and tells nothing, since other threads call the host too.
 #[derive(Drop)]
@@ -25,8 +18,7 @@ pub(crate) struct SiteLock<'a, R: Wait, D: Disk, G: Gate, N: Plan> {
     pub(crate) rt: &'a R,
     pub(crate) host: &'a Mutex<SiteHost<AnyEngine, D, N>>,
     pub(crate) gate: &'a G,
-    pub(crate) moves: &'a Moves,
-    pub(crate) site: SiteId,
+    pub(crate) drive: Drive<'a>,
 }
 
 #[tactic(none)]
@@ -34,35 +26,32 @@ impl<'a, R: Wait, D: Disk, G: Gate, N: Plan> SiteDoor for SiteLock<'a, R, D, G, 
     ghost tells = { λ door. λ calls. ⊥ };
 
     fn begin(&mut self, tx: Tx) -> Result<Answer, DoorErr> {
+        self.drive.stand_back();
         self.host.lock(self.rt).begin(tx, self.gate)
     }
 
     fn step(&mut self, tx: Tx) -> Result<Answer, DoorErr> {
         let answer = self.host.lock(self.rt).step(tx, self.gate);
-        if got_nowhere(&answer) {
-            self.moves.await_rest(self.site.0);
-        }
+        self.drive.pause(&answer);
         answer
     }
 
     fn commit(&mut self, tx: Tx) -> Result<Answer, DoorErr> {
         let answer = self.host.lock(self.rt).commit(tx, self.gate);
-        self.moves.note_local(self.site.0);
+        self.drive.note_local();
         answer
     }
 
     fn abort(&mut self, tx: Tx) -> Result<Answer, DoorErr> {
         let answer = self.host.lock(self.rt).abort(tx, self.gate);
-        self.moves.note_local(self.site.0);
+        self.drive.note_local();
         answer
     }
 
     fn fate(&mut self, tx: Tx) -> Result<Answer, DoorErr> {
         let answer = self.host.lock(self.rt).fate(tx, self.gate);
-        if got_nowhere(&answer) {
-            self.moves.await_rest(self.site.0);
-        }
-        answer
+        self.drive.pause(&answer);
+        self.drive.told(answer)
     }
 }
 
@@ -72,7 +61,7 @@ pub(crate) struct CoordLock<'a, R: Wait, D: Disk, G: Gate, N: Plan> {
     pub(crate) rt: &'a R,
     pub(crate) host: &'a Mutex<CoordHost<AnyPolicy, D, N>>,
     pub(crate) gate: &'a G,
-    pub(crate) moves: &'a Moves,
+    pub(crate) drive: Drive<'a>,
 }
 
 #[tactic(none)]
@@ -80,28 +69,27 @@ impl<'a, R: Wait, D: Disk, G: Gate, N: Plan> CoordDoor for CoordLock<'a, R, D, G
     ghost tells = { λ door. λ calls. ⊥ };
 
     fn go(&mut self, tx: Tx) -> Result<Answer, DoorErr> {
+        self.drive.stand_back();
         let answer = self.host.lock(self.rt).go(tx, self.gate);
-        self.moves.note_asked();
+        self.drive.note_asked();
         answer
     }
 
     fn fate(&mut self, tx: Tx) -> Result<Answer, DoorErr> {
         let answer = self.host.lock(self.rt).fate(tx, self.gate);
-        if got_nowhere(&answer) {
-            self.moves.await_rest(0);
-        }
-        answer
+        self.drive.pause(&answer);
+        self.drive.told(answer)
     }
 
     fn again(&mut self, tid: Tid) -> Result<Answer, DoorErr> {
         let answer = self.host.lock(self.rt).again(tid, self.gate);
-        self.moves.note_asked();
+        self.drive.note_asked();
         answer
     }
 
     fn late(&mut self, tid: Tid) -> Result<Answer, DoorErr> {
         let answer = self.host.lock(self.rt).late(tid, self.gate);
-        self.moves.note_asked();
+        self.drive.note_asked();
         answer
     }
 }

@@ -1,7 +1,7 @@
 //! The hosts of a run, as its threads share them.
 ghost use Rattle.std.specs.Prelude.{◌≡◌, ◌≤◌, ◌+◌, length, vec_len, vec_capacity};
 
-use crate::moves::Moves;
+use crate::moves::{ACTORS, Moves};
 use crate::seats::Seat;
 use any_engine::AnyEngine;
 use conservative_take::AnyPolicy;
@@ -26,6 +26,15 @@ impl<'s, 'h, 'm, D: Disk, N: Plan> Hosts<'s, 'h, 'm, D, N> {
         match self.sites.get(index) {
             Some(host) => *host,
             None => None,
+        }
+    }
+
+    /// Notes of each site without a host that none takes turns for it.
+    pub(crate) fn note_missing(&self) {
+        for number in 1..ACTORS {
+            if self.site(SiteId(number)).is_none() {
+                self.moves.note_host_ended(number);
+            }
         }
     }
 }

@@ -10,6 +10,7 @@ mod clients;
 mod closing_up;
 mod crews;
 mod doors;
+mod drives;
 mod errors;
 mod hosts;
 mod laws;

@@ -49,11 +49,11 @@ fn turn_site<R: Wait, D: Disk, G: Gate, N: Plan>(
     site: SiteId,
 ) {
     for _ in 0..turns {
-        let seen = moves.sent_to(site.0);
+        let seen = moves.wakes(site.0);
         let made = host.lock(rt).turn(gate);
         match made {
             Ok(true) => moves.note_turn(site.0),
-            Ok(false) => moves.await_sent(site.0, seen),
+            Ok(false) => moves.await_wake(site.0, seen),
             Err(_) => return,
         }
     }
@@ -68,11 +68,11 @@ fn turn_coordinator<R: Wait, D: Disk, G: Gate, N: Plan>(
     moves: &Moves,
 ) {
     for _ in 0..turns {
-        let seen = moves.sent_to(0);
+        let seen = moves.wakes(0);
         let made = host.lock(rt).turn(gate);
         match made {
             Ok(true) => moves.note_turn(0),
-            Ok(false) => moves.await_sent(0, seen),
+            Ok(false) => moves.await_wake(0, seen),
             Err(_) => return,
         }
     }
@@ -131,6 +131,7 @@ pub(crate) fn run_tasks<
         sites: sites.as_slice(),
         moves: &moves,
     };
+    hosts.note_missing();
     let threads = tasks.len();
     thread::for_each_mut(
         rt,
