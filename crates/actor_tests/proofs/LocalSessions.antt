@@ -1,6 +1,10 @@
 -- How a session goes on: a site that stands for few lines stands behind a command for at most two more, also where the command fails.
-use Rattle.std.proofs.Common.{true, List, [], ℕ, ◌+◌, ◌≤◌, ◌<◌, ◌^◌, Result, Ok, Err, IfOk, IfErr, length, ap, sym, ◌∙◌, subst, arith}
+use Rattle.std.proofs.Common.{◌≡◌, Bool, true, false, cond, Some, None, List, [], ◌∷◌, ℕ, ◌+◌, ◌≤◌, ◌<◌, ◌^◌, Result, Ok, Err, IfOk, IfErr, length, refl, ap, sym, ◌∙◌, subst, arith}
+use Rattle.std.proofs.lemmas.Bool.{ne_eqb}
 use Rattle.mdb_base.specs.declared.names.Tx.{Tx}
+use Rattle.mdb_base.specs.Names.{same_tx}
+use Rattle.mdb_base.specs.Words.{Each, first_where}
+use Rattle.mdb_base.proofs.ListLaws.{each_map}
 use Rattle.fed_rules.specs.declared.events.SiteEvent.{SiteEvent}
 use Rattle.fed_rules.specs.declared.events.SiteStep.{SiteStep}
 use Rattle.fed_rules.specs.declared.messages.ToSite.{ToSite}
@@ -13,7 +17,7 @@ use Rattle.actor_store.specs.declared.errors.StepErr.{StepErr}
 use Rattle.actor_store.specs.declared.errors.StepErr.TheVariants as Err_is
 use Rattle.site_core.specs.Made.{about}
 use Rattle.site_core.specs.Stands.{Before, StopAt, Within, stopped_past}
-use Rattle.actor_tests.specs.LocalSessions.{IsAbout, IsApart, IsAskAbout, IsOfLines, IsWithin}
+use Rattle.actor_tests.specs.LocalSessions.{IsAbout, IsApart, IsAskAbout, IsBelowLast, IsOfLines, IsWithin}
 use Rattle.journal_disk.specs.declared.mem_disk.MemDisk.{MemDisk}
 use Rattle.any_engine.specs.declared.engine.AnyEngine.{AnyEngine}
 use Rattle.any_engine.specs.Stands as Engines
@@ -22,7 +26,20 @@ use Rattle.local_dbms.specs.declared.asks.SiteAsk.{SiteAsk}
 use Rattle.local_dbms.specs.declared.asks.SiteAsk.TheVariants as At
 use Rattle.local_dbms.specs.declared.dbms.LocalDbms.{LocalDbms}
 use Rattle.local_dbms.specs.Asks.{CanAsk, site_request}
-use Rattle.local_dbms.specs.Stands.{CanGive, Each_site, Fails, OwnPrograms, Some_site, Stands, Tells, own_programs}
+use Rattle.local_dbms.specs.Stands.{CanGive, Each_site, Fails, IsNamed, OwnPrograms, Some_site, Stands, Tells, own_programs, program_at}
+
+-- transactions below the last one are in their range, and the last one is none of them
+pub named_below : (lines : List TxLine) → Each IsBelowLast lines → Each IsNamed lines
+named_below lines each = each_map IsBelowLast IsNamed (λ line is. (is.0, (let below = is.1 in omega (arith, below)))) lines each
+
+no_program : (lines : List TxLine) → Each IsBelowLast lines → own_programs (record { 0 = 1 }) lines (record { 0 = 1024 }) ≡ None
+no_program [] each = refl
+no_program (line ∷ lines) each =
+    let apart : same_tx line.tx (record { 0 = 1024 }) ≡ false = (let below = each.0.1 in ne_eqb line.tx.0 1024 (omega (arith, below))) in
+    ap (λ (b : Bool). program_at (record { 0 = 1 }) (cond b (Some line) (first_where (λ (l : TxLine). same_tx l.tx (record { 0 = 1024 })) lines))) apart ∙ no_program lines each.1
+
+pub apart_below : (lines : List TxLine) → Each IsBelowLast lines → IsApart (record { 0 = 1024 }) lines
+apart_below lines each = record { apart = no_program lines each; least = omega arith; greatest = omega arith }
 
 -- a request adds at most one line, and a stop within an event two
 more_lines : (home : Home) (past : SitePast) (r : Request SiteEvent) (n : ℕ) → length past ≤ n → length (past_behind home past r) ≤ n + 2

@@ -1,5 +1,5 @@
 -- The site of the tests, and how much happened there.
-use Rattle.std.specs.Prelude.{ℕ, ◌≡◌, ◌≤◌, true, None, List, length}
+use Rattle.std.specs.Prelude.{ℕ, ◌≡◌, ◌≤◌, ◌<◌, true, None, List, length}
 use Rattle.mdb_base.specs.declared.names.Engine.{Engine}
 use Rattle.mdb_base.specs.declared.names.Tx.{Tx}
 use Rattle.fed_rules.specs.declared.messages.ToSite.{ToSite}
@@ -34,6 +34,10 @@ pub record IsApart (foreign : Tx) (transactions : List TxLine) : Type 0 where
   pub apart : own_programs (record { 0 = 1 }) transactions foreign ≡ None
   pub least : 1 ≤ foreign.0
   pub greatest : foreign.0 ≤ 1024
+
+-- the transaction of the line is in its range, and isn't the last one
+abbrev pub IsBelowLast : TxLine → Type 0
+IsBelowLast line = (1 ≤ line.tx.0) × (line.tx.0 < 1024)
 
 -- there are at most so many lines, and the transaction, a number in its range, has no program here
 pub record IsWithin (n : ℕ) (foreign : Tx) (home : Home) (programs : OwnPrograms) (past : SitePast) : Type 0 where

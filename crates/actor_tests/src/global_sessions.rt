@@ -1,6 +1,7 @@
 //! Sessions of a coordinator: what it answers and sends, where the sites say what the scripts say.
 mod faults;
 mod kept;
+mod large;
 mod limits;
 mod play;
 mod protocols;

@@ -8,6 +8,7 @@ ghost use Rattle.actor_tests.specs.LocalSessions.{IsAbout, IsApart, IsAskAbout, 
 
 mod again;
 mod faults;
+mod large;
 mod reopened;
 
 use crate::answers::is_cut;
@@ -206,7 +207,7 @@ fn play_line(
 }
 
 // The site carries a script out: its lines are commands with their answers, and with the numbers of what is sent, counted from 0. Says
-// whether it came to the end.
+// whether it came to the end. Behind the script the site stands for at most as many lines as are given last.
 fn play(
     rt: &impl Abort,
     alloc: Global,
@@ -214,16 +215,18 @@ fn play(
     disk: &mut MemDisk,
     foreign: Tx,
     start: u32,
+    most: u32,
     script: &str,
 ) -> Result<bool, Fail>
-    requires few { start ≤ 900 }
+    requires few { start ≤ most }
+    requires many { most ≤ 30000 }
     requires stood { IsOfLines start foreign dbms.old disk.old }
-    ensures { OnOk result (IsOfLines (start + 100) foreign dbms.new disk.new) }
+    ensures { OnOk result (IsOfLines most foreign dbms.new disk.new) }
 {
     let mut sent: u32 = 0;
     let mut lines = start;
     for text in script.lines() {
-        if lines > start + 98 {
+        if lines + 2 > most {
             return Err(Fail::from("the script is too long"));
         }
         match play_line(rt, alloc, dbms, disk, foreign, lines, sent, text)? {
@@ -315,7 +318,7 @@ fn plays(
 ) -> Result<u64, Fail>
     requires { IsOfLines 0 foreign dbms.old disk.old }
 {
-    assert!(rt; play(rt, alloc, dbms, disk, foreign, 0, script)?);
+    assert!(rt; play(rt, alloc, dbms, disk, foreign, 0, 20_000, script)?);
     Ok(disk.len())
 }
 

@@ -53,7 +53,7 @@ fn goes_on(
 {
     assert!(rt; dbms.core().is_down());
     let rest = rest_of(dbms.core().records());
-    assert!(rt; play(rt, alloc, dbms, disk, GLOBAL, 100, rest)?);
+    assert!(rt; play(rt, alloc, dbms, disk, GLOBAL, 100, 200, rest)?);
     assert!(rt; !stand_twice(dbms.core().records()));
     Ok(())
 }
@@ -68,7 +68,7 @@ fn ends_or_goes_on(
 ) -> Result<bool, Fail>
     requires { IsOfLines 0 GLOBAL dbms.old disk.old }
 {
-    let ended = play(rt, alloc, dbms, disk, GLOBAL, 0, script)?;
+    let ended = play(rt, alloc, dbms, disk, GLOBAL, 0, 100, script)?;
     if !ended {
         goes_on(rt, alloc, dbms, disk)?;
     }

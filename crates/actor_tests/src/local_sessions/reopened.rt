@@ -205,7 +205,7 @@ fn stops(
     requires { IsOfLines 0 OTHER dbms.old disk.old }
     ensures { OnOk result (IsOfLines 20000 OTHER dbms.new disk.new) }
 {
-    let ended = play(rt, alloc, dbms, disk, OTHER, 0, script)?;
+    let ended = play(rt, alloc, dbms, disk, OTHER, 0, 100, script)?;
     let _step = asks(dbms, alloc, disk, OTHER, 19_998, HALT)?;
     Ok(ended)
 }
