@@ -30,7 +30,10 @@ fn give_up(script: &mut String, before: u32) -> Result<(), Fail>
     let (take, prepare, decide) = (work + 1, work + 2, work + 3);
     let first = 2 * before;
     let second = first + 1;
-    writeln!(script, "go {number} => begun {number}.{attempt} sends 1/{work}")?;
+    writeln!(
+        script,
+        "go {number} => begun {number}.{attempt} sends 1/{work}"
+    )?;
     writeln!(
         script,
         "give 1 {work} => did {number}.{attempt} done sends {first}"
