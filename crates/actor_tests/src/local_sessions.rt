@@ -207,7 +207,7 @@ fn play_line(
 }
 
 // The site carries a script out: its lines are commands with their answers, and with the numbers of what is sent, counted from 0. Says
-// whether it came to the end. Behind the script the site stands for at most as many lines as are given last.
+// whether it came to the end. It stands for at most the first number of lines before that, and for at most the second one behind it.
 fn play(
     rt: &impl Abort,
     alloc: Global,

@@ -11,6 +11,7 @@ mod faults;
 mod gates;
 mod going_on;
 mod journals;
+mod large;
 mod limits;
 mod makes;
 mod protocols;

@@ -160,10 +160,10 @@ fn a_global_commits_at_eight_sites(rt: HostRuntime) {
 
 /// An input, and the output that is wanted of it.
 #[derive(Drop)]
-struct Wanted {
-    alloc: Global,
-    input: String,
-    output: String,
+pub(super) struct Wanted {
+    pub alloc: Global,
+    pub input: String,
+    pub output: String,
 }
 
 impl Wanted {
@@ -177,7 +177,7 @@ impl Wanted {
     }
 
     /// A command, and the answer that is wanted of it.
-    fn line(&mut self, command: &str, answer: &str) -> Result<(), Fail> {
+    pub fn line(&mut self, command: &str, answer: &str) -> Result<(), Fail> {
         self.input
             .push_str(&format!(in self.alloc; "{command}\n")?)?;
         self.output
@@ -186,7 +186,7 @@ impl Wanted {
     }
 
     /// `replay` on the input has this status, and puts the output.
-    fn is_met(
+    pub fn is_met(
         &self,
         rt: &(impl Abort + Threads + Wait + Sync + AllocGlobal),
         status: u8,
@@ -273,7 +273,7 @@ fn a_global_is_begun_32_times(rt: HostRuntime) -> Result<(), Fail> {
 }
 
 /// A site with so many items.
-fn of_items(alloc: Global, count: u16) -> Result<Wanted, Fail> {
+pub(super) fn of_items(alloc: Global, count: u16) -> Result<Wanted, Fail> {
     let mut wanted = Wanted::new(alloc, "site 1 locking nothing\n")?;
     for key in 0..count {
         wanted
