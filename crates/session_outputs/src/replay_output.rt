@@ -102,8 +102,19 @@ pub fn output_of<D: Disk>(
         Err(WorldErr::Memory) => return Err(Memory),
     };
     match play(alloc, &mut world, commands.as_slice(), disks) {
-        Ok(()) => printed(alloc, &world),
-        Err(WorldErr::Disk { number }) => broken(alloc, world.lines(), number),
-        Err(WorldErr::Memory) => Err(Memory),
+        Ok(()) => {
+            let output = printed(alloc, &world);
+            drop(world);
+            output
+        }
+        Err(WorldErr::Disk { number }) => {
+            let output = broken(alloc, world.lines(), number);
+            drop(world);
+            output
+        }
+        Err(WorldErr::Memory) => {
+            drop(world);
+            Err(Memory)
+        }
     }
 }

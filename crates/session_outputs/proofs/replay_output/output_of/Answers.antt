@@ -56,8 +56,8 @@ play-requires-clause-stood g c =
       holds = can_play session c.as_slice.result.now c.as_slice.ensures c.requires.commands;
     }
 
-pub printed-requires : goal.printed-requires
-printed-requires g c =
+pub printed-output-requires : goal.printed-output-requires
+printed-output-requires g c =
     let disk = g.D.Disk in
     let session = c.args.session in
     let whole : IsScenario session.scenario = c.scenario_is_whole.ensures in
@@ -87,14 +87,14 @@ returns-in-Ok-play-clause-output g c =
     let can = can_play session c.as_slice.result.now c.as_slice.ensures c.requires.commands in
     let stood = subst (λ (cs : List Command). Stands disk.tells c.play.new.world new session.scenario cs) same (c.in-Ok-play.ensures.played session.scenario [] c.in-Ok.ensures.stands can) in
     let right = story_right c.federation_is_serializable.ensures.headline c.commits_are_settled_at_rest.ensures session.scenario whole (commands_of session) (c.closed_sessions_rest.ensures session.scenario (reverse session.commands) whole) in
-    whole_output disk.seen c.printed.result old new session (c.in-Ok-play.ensures.cause ∙ c.in-Ok.ensures.cause) right
+    whole_output disk.seen c.printed-output.result old new session (c.in-Ok-play.ensures.cause ∙ c.in-Ok.ensures.cause) right
     (stands_hold_frames disk.tells c.play.new.world new session.scenario (commands_of session) c.requires.told sized right.at_rest stood)
     (stands_hold_all disk.tells c.play.new.world new session.scenario (commands_of session) sized stood)
     (λ lines are. unrefused c.conservative_lines_refuse_none.ensures.all session.scenario whole (commands_of session) lines are)
-    (whole_weaker c.printed.result _ _ (λ bytes each. each session.scenario (commands_of session) (recalls disk.tells c.play.new.world new (fresh session.scenario) (commands_of session) stood)) c.printed.ensures)
+    (whole_weaker c.printed-output.result _ _ (λ bytes each. each session.scenario (commands_of session) (recalls disk.tells c.play.new.world new (fresh session.scenario) (commands_of session) stood)) c.printed-output.ensures)
 
-pub broken-requires-in-Err-Disk-play : goal.broken-requires-in-Err-Disk-play
-broken-requires-in-Err-Disk-play g c =
+pub broken-output-requires : goal.broken-output-requires
+broken-output-requires g c =
     let disk = g.D.Disk in
     let session = c.args.session in
     let new = map disk.seen c.play.new.disks.items in
@@ -119,12 +119,12 @@ returns-in-Err-Disk-play-clause-output g c =
     let can = can_play session c.as_slice.result.now c.as_slice.ensures c.requires.commands in
     let b = subst (λ (why : WorldErr). FailsToward disk.seen disk.tells why (map disk.seen c.new.new.disks.items) c.play.new.world new (closed_with c.as_slice.result.now session.scenario []) session.scenario []) c.in-Err-Disk-play.field-0-is
     (c.in-Err-Disk-play.ensures.failed session.scenario [] c.in-Ok.ensures.stands can) in
-    broken_output disk.seen c.broken-in-Err-Disk-play.result old new session c.in-Err-Disk-play.number (b.done ++ []) c.lines.result.now
+    broken_output disk.seen c.broken-output.result old new session c.in-Err-Disk-play.number (b.done ++ []) c.lines.result.now
     (c.lines.ensures.fresh session.scenario (b.done ++ []) b.broken.has)
     (unrefused c.conservative_lines_refuse_none.ensures.all session.scenario c.scenario_is_whole.ensures (b.done ++ []) c.lines.result.now (c.lines.ensures.fresh session.scenario (b.done ++ []) b.broken.has))
     (play_breaks disk.tells c.play.new.world old new session c.as_slice.result.now same sized disk.seen (λ one. g.met.D.Disk.told_size one c.requires.told) c.in-Err-Disk-play.number
     (map disk.seen c.new.new.disks.items) c.in-Ok.ensures.cause b)
-    c.broken-in-Err-Disk-play.ensures
+    c.broken-output.ensures
 
 pub returns-clause-output : goal.returns-clause-output
 returns-clause-output g c =
