@@ -158,20 +158,6 @@ impl Progress {
         self.closing()
     }
 
-    /// Whether nothing was outstanding here when so many steps were answered.
-    pub fn is_idle(&self, steps: &[Step], done: usize) -> bool
-        requires { done ≤ length steps.now }
-        ensures { result ≡ spec.is_idle steps.now done self.now }
-    {
-        if visits(&steps[done..], self.site) {
-            if done == steps.len() {
-                return true;
-            }
-            return steps[done].site != self.site;
-        }
-        self.ticket && self.voted
-    }
-
     /// Whether a reply of this epoch can be one of the participant: its epoch is the known one, or none is known.
     pub fn knows(&self, epoch: u32) -> bool
         ensures { result ≡ counted.knows self.now.epoch epoch }
