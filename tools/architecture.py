@@ -20,7 +20,7 @@ FLOORS = [
     ("tests", "Tests and examples", "touch public calls alone",
      "text_tests part_tests file_tests journal_tests engine_tests actor_tests world_tests session_tests world_by_hand engine_alone"),
     ("top", "Top", "words, source, sink, disks, status, and what is printed; touches the world's public calls",
-     "mdbfed mdb_top resume_output session_outputs"),
+     "mdbfed mdb_top resume_output session_outputs outputs"),
     ("threads", "A run in threads", "hosts behind a lock each; touch the actors' public calls",
      "federation_run fed_hosts"),
     ("world", "World", "who gets which message; touches the actors' public calls",
@@ -39,7 +39,7 @@ FLOORS = [
     ("printed", "Laws of lines and hosts", "touch definitions, those of parts and texts too",
      "line_laws replay_laws made_laws host_laws left_disks"),
     ("theorems", "Theorems", "touch definitions alone",
-     "audit_laws resume_laws disk_laws progress_laws closing_laws refuted_rules sum_laws federation_laws world_laws commit_laws coord_laws "
+     "audit_laws resume_laws found_laws disk_laws progress_laws closing_laws refuted_rules sum_laws federation_laws world_laws commit_laws coord_laws "
      "site_history engine_laws rules_laws"),
     ("rules", "Rules", "plain types and definitions; no code",
      "audit_rules fed_rules"),

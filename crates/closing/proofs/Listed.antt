@@ -30,8 +30,8 @@ use Rattle.site_book.specs.Listing.{AreRising, Lists}
 use Rattle.closing_laws.specs.Runs.{SitesBeginOnce}
 use Rattle.closing_laws.proofs.BegunOnce.{once_distinct, restored_some}
 use Rattle.closing_laws.proofs.Quiet.{none_live_at}
-use Rattle.resume_laws.specs.FoundSessions.{AreUsable}
-use Rattle.resume_laws.proofs.FoundSessions.{lives_on}
+use Rattle.found_laws.specs.FoundSessions.{AreUsable}
+use Rattle.resume_laws.proofs.FoundRests.{lives_on}
 use Rattle.fed_world.specs.Beginnings.{Begins}
 
 -- none of a rising list stands behind itself

@@ -11,7 +11,7 @@ use Rattle.fed_rules.specs.Sessions.{Session, fresh}
 use Rattle.journal_disk.specs.Disk.{Seen}
 use Rattle.commit_laws.proofs.Walks.{undeclared}
 use Rattle.closing_laws.proofs.Ready.{UndeclaredAreSilent}
-use Rattle.resume_laws.proofs.FoundSessions.{quiet}
+use Rattle.found_laws.proofs.FoundSessions.{quiet}
 use Rattle.fed_world.specs.declared.world.World.{World}
 use Rattle.fed_world.specs.Beginnings.{Begins, Remembers, scenario_by, scenario_of}
 use Rattle.fed_world.specs.Worlds.{HasLines, Stands}

@@ -45,7 +45,7 @@ use Rattle.commit_laws.proofs.Links.{home-again, story_goes_on}
 use Rattle.commit_laws.proofs.PreparedLaws.{nowhere}
 use Rattle.commit_laws.proofs.SiteWork.{held-prepared}
 use Rattle.site_history.specs.Led.{IsAsked, IsLed}
-use Rattle.closing_laws.specs.Bound.{IsInRange}
+use Rattle.found_laws.specs.Ranges.{IsInRange}
 use Rattle.closing_laws.proofs.BegunOnce.{IsOthers, led_story, locals_numbered, sites_begin_once}
 use Rattle.closing_laws.proofs.FewTids.{few_found, few_tids}
 use Rattle.closing_laws.proofs.Lengths.{few_numbers, length_rising, length_sorted, numbers_differ}

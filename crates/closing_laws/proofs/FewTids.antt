@@ -8,7 +8,7 @@ use Rattle.mdb_base.proofs.EachLaws.{among_append, among_behind}
 use Rattle.mdb_base.proofs.JoinLaws.{length-append}
 use Rattle.order_laws.specs.Chains.{Distinct, In}
 use Rattle.fed_rules.specs.Requests.{attempt}
-use Rattle.closing_laws.specs.Bound.{IsInRange}
+use Rattle.found_laws.specs.Ranges.{IsInRange}
 use Rattle.closing_laws.proofs.Lengths.{distinct_in_others, found_in_others, least_or_less}
 
 -- the attempts of a transaction with numbers below this one, and 32 of each transaction up to this number

@@ -1,14 +1,9 @@
 -- How many commands closing makes, and finishing alone.
-use Rattle.std.specs.Prelude.{ℕ, ◌+◌, ◌*◌, ◌<◌, ◌≤◌, List, length}
-use Rattle.mdb_base.specs.declared.names.Tid.{Tid}
+use Rattle.std.specs.Prelude.{ℕ, ◌+◌, ◌*◌, ◌≤◌, List, length}
 use Rattle.fed_rules.specs.declared.commands.Command.{Command}
 use Rattle.fed_rules.specs.declared.scenario.Scenario.{Scenario}
 use Rattle.fed_rules.specs.Closing.{closed, finished_alone}
 use Rattle.fed_rules.specs.Plans.{IsScenario}
-
--- one of 32 attempts of one of 1,024 transactions
-abbrev pub IsInRange : Tid → Type 0
-IsInRange tid = (1 ≤ tid.tx.0) × (tid.tx.0 ≤ 1024) × (tid.attempt < 32)
 
 -- the most commands for an attempt: one gives it up; at each of eight sites one ends its live run; one sends its decision again, and at each site one
 -- gives the message and one takes the answer; and at each site that is in doubt of it one asks, one takes the inquiry, and one gives the answer

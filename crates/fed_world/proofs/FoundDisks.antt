@@ -26,8 +26,8 @@ use Rattle.frame_journal.specs.Journal.{Kept, records}
 use Rattle.frame_journal.specs.Records.{Entry, entry_frame, values}
 use Rattle.site_history.specs.FoundSites.{WritesRise}
 use Rattle.site_journal.specs.Spelling as Sites
-use Rattle.resume_laws.specs.FoundSessions.{IsOfFormat, RowsRise}
-use Rattle.resume_laws.proofs.Readable.{same_home}
+use Rattle.found_laws.specs.FoundSessions.{IsOfFormat, RowsRise}
+use Rattle.found_laws.proofs.FoundJournals.{same_home}
 use Rattle.usable_journals.specs.Disks.{AreUsableFrom, IsUsableDisk}
 use Rattle.found_disks.specs.Finding.{journal_on, sites_from, unless_empty}
 use Rattle.found_disks.specs.Reading.{AreReadFrom, HasBytes, IsReadFrom}

@@ -16,8 +16,8 @@ use Rattle.fed_rules.specs.Story.{home_found}
 use Rattle.journal_disk.specs.Disk.{Image}
 use Rattle.frame_journal.specs.Journal.{Kept, records}
 use Rattle.site_journal.specs.Spelling as Sites
-use Rattle.resume_laws.specs.FoundSessions.{AreUsable}
-use Rattle.resume_laws.proofs.FoundSessions.{plan_sites}
+use Rattle.found_laws.specs.FoundSessions.{AreUsable}
+use Rattle.found_laws.proofs.FoundSessions.{plan_sites}
 use Rattle.session_routes.specs.Routes.{IsRouted}
 use Rattle.found_disks.specs.declared.reading.Journals.{Journals}
 use Rattle.found_disks.specs.Finding.{found_in, journal_on, sites_from, unless_empty}

@@ -42,10 +42,10 @@ use Rattle.coord_laws.proofs.Sound.{CoordSound, IsBegun}
 use Rattle.commit_laws.proofs.AgreeCoord.{told-to}
 use Rattle.commit_laws.proofs.FoundSessions.{session_sound}
 use Rattle.commit_laws.proofs.Links.{CoordCame, IsNext, linked, member_of}
-use Rattle.resume_laws.specs.FoundSessions.{AreUsable, IsOfFormat}
-use Rattle.resume_laws.proofs.CoordGentle.{closed_standing, decisions_alone}
-use Rattle.resume_laws.proofs.FoundSessions.{begins as begins_so, fits, nobody_on, plan_sites}
-use Rattle.resume_laws.proofs.GoesOn.{idle}
+use Rattle.found_laws.specs.FoundSessions.{AreUsable, IsOfFormat}
+use Rattle.found_laws.proofs.CoordGentle.{IsDecide, closed_standing, decisions_alone, each_here}
+use Rattle.found_laws.proofs.FoundSessions.{begins as begins_so, fits, nobody_on, plan_sites}
+use Rattle.found_laws.proofs.Idle.{begins_nothing, idle}
 use Rattle.coord_laws.proofs.Begun.{begun_in}
 use Rattle.coord_laws.proofs.CoordOpened.{read_is}
 use Rattle.coord_laws.proofs.OpenedPasts.{opened_begun}
@@ -57,11 +57,8 @@ use Rattle.commit_laws.proofs.SiteFacts.{Says}
 use Rattle.commit_laws.proofs.SiteLines.{site-lines}
 use Rattle.fed_rules.specs.Coord.{coord_line}
 use Rattle.fed_rules.specs.Reopened.{opened_coordinator}
-use Rattle.resume_laws.proofs.Opening.{session_begins}
-use Rattle.resume_laws.proofs.PlanSites.{rise_all}
-use Rattle.resume_laws.proofs.Settling.{each_here}
-use Rattle.resume_laws.proofs.SiteGentle.{IsDecide}
-use Rattle.resume_laws.proofs.Walk.{begins_nothing}
+use Rattle.found_laws.proofs.Opening.{session_begins}
+use Rattle.found_laws.proofs.PlanSites.{rise_all}
 use Rattle.rules_laws.proofs.CoordPasts.{BeginsNothing}
 use Rattle.rules_laws.proofs.EachAttempt.{with_in}
 use Rattle.site_journal.specs.Spelling.{IsRecord}

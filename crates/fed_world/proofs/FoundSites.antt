@@ -41,10 +41,10 @@ use Rattle.site_history.proofs.OpenedSites.{torn_short}
 use Rattle.site_history.proofs.ReadSums.{foundation}
 use Rattle.site_history.proofs.WellKept.{well_on}
 use Rattle.site_journal.specs.Spelling.{IsRecord}
-use Rattle.resume_laws.specs.FoundSessions.{AreOfDisks, AreUsable, IsOfFormat}
-use Rattle.resume_laws.specs.Gentle.{IsResuming}
-use Rattle.resume_laws.proofs.FoundSessions.{IsResumedPast, all_sorted, resumes}
-use Rattle.resume_laws.proofs.Readable.{same_home}
+use Rattle.found_laws.specs.FoundSessions.{AreOfDisks, AreUsable, IsOfFormat}
+use Rattle.found_laws.specs.Resuming.{IsResuming}
+use Rattle.found_laws.proofs.FoundSessions.{IsResumedPast, all_sorted, resumes}
+use Rattle.found_laws.proofs.FoundJournals.{same_home}
 use Rattle.site_core.specs.Made.{IsOpened, was_local}
 use Rattle.site_core.proofs.MadeLaws.{lawful}
 use Rattle.site_core.proofs.OpenedOnce.{named_apart}

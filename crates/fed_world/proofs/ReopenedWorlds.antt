@@ -41,9 +41,9 @@ use Rattle.local_dbms.specs.declared.dbms.LocalDbms.{LocalDbms}
 use Rattle.local_dbms.specs.Found.{found_programs}
 use Rattle.local_dbms.specs.Stands as Dbms
 use Rattle.local_dbms.specs.Stands.{OwnPrograms}
-use Rattle.resume_laws.specs.FoundSessions.{AreUsable, IsOfFormat}
-use Rattle.resume_laws.proofs.FoundSessions.{IsResumedPast, resumes}
-use Rattle.resume_laws.proofs.Opening.{session_begins}
+use Rattle.found_laws.specs.FoundSessions.{AreUsable, IsOfFormat}
+use Rattle.found_laws.proofs.FoundSessions.{IsResumedPast, resumes}
+use Rattle.found_laws.proofs.Opening.{session_begins}
 use Rattle.session_report.specs.declared.marks.Marks.{Marks}
 use Rattle.session_report.specs.Marks.{kept_marks}
 use Rattle.session_routes.specs.Routes.{IsRouted}

@@ -32,8 +32,8 @@ use Rattle.coord_laws.proofs.Past.{records_name}
 use Rattle.commit_laws.proofs.FoundSessions.{CoordinatorFits, fresh_fits, session_goes_on}
 use Rattle.commit_laws.proofs.Links.{CoordCame, IsNext, linked}
 use Rattle.local_dbms.specs.Stands.{program_at}
-use Rattle.resume_laws.proofs.FoundSessions.{fits}
-use Rattle.resume_laws.proofs.Opening.{session_begins}
+use Rattle.found_laws.proofs.FoundSessions.{fits}
+use Rattle.found_laws.proofs.Opening.{session_begins}
 use Rattle.world_laws.proofs.Members.{ComesFrom, NamesAmong, SendsAmong, line_among, member_among, sites_in}
 use Rattle.world_laws.proofs.Sent.{homed, homeless, messages_of_begun}
 use Rattle.fed_world.specs.Beginnings.{Begins, made_up, programs_at}

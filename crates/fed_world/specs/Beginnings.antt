@@ -19,8 +19,8 @@ use Rattle.journal_disk.specs.Disk.{Seen}
 use Rattle.journal_disk.specs.Frames.{AreWhole}
 use Rattle.local_dbms.specs.Found.{found_programs}
 use Rattle.local_dbms.specs.Stands.{OwnPrograms, own_programs}
-use Rattle.resume_laws.specs.Closed.{AreInRange}
-use Rattle.resume_laws.specs.FoundSessions.{AreUsable, IsOfFormat}
+use Rattle.found_laws.specs.Ranges.{AreInRange}
+use Rattle.found_laws.specs.FoundSessions.{AreUsable, IsOfFormat}
 use Rattle.session_report.specs.declared.marks.Mark.{Mark}
 use Rattle.session_report.specs.Marks.{kept_marks}
 use Rattle.site_journal.specs.Spelling.{IsRecord}

@@ -11,7 +11,7 @@ ghost use Rattle.journal_disk.specs.Disk.{Image};
 ghost use Rattle.local_dbms.specs.Found.{found_programs};
 ghost use Rattle.local_dbms.specs.Stands as Dbms;
 ghost use Rattle.site_core.specs.Found.{IsFoundOn};
-ghost use Rattle.resume_laws.specs.FoundSessions.{AreUsable};
+ghost use Rattle.found_laws.specs.FoundSessions.{AreUsable};
 ghost use Rattle.found_disks.specs.Finding.{found_in};
 ghost use Rattle.found_disks.specs.Reading.{FaultsTell, images_of};
 ghost use Rattle.fed_world.specs.Reopening.{AreBack, AreOnDisks, AreSynced, CoordinatorBack, HasActors, IsDiskOrMemory, IsOnFirst, IsPlanOf, ReopensAs};

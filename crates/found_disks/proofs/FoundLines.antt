@@ -16,7 +16,7 @@ use Rattle.frame_journal.proofs.Entries.{new_size, old_size}
 use Rattle.frame_journal.proofs.Keeping.{length-frames}
 use Rattle.site_journal.specs.PayloadSizes.{payload_has_size}
 use Rattle.site_journal.specs.Spelling as Sites
-use Rattle.resume_laws.specs.Closed.{FoundLinesFit}
+use Rattle.found_laws.specs.FoundLines.{FoundLinesFit}
 use Rattle.found_disks.specs.Finding.{found_in, journal_on, sites_from, unless_empty}
 use Rattle.found_disks.specs.FoundLines.{AreShort, FoundSessionsBeginShortly}
 use Rattle.found_disks.specs.Reading.{AreReadFrom, IsReadFrom}

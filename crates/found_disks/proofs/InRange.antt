@@ -20,8 +20,7 @@ use Rattle.journal_disk.specs.Disk.{Image}
 use Rattle.frame_journal.specs.Journal.{Kept, records}
 use Rattle.coord_journal.specs.Spelling as Coordinators
 use Rattle.site_journal.specs.Spelling as Sites
-use Rattle.closing_laws.specs.Bound.{IsInRange}
-use Rattle.resume_laws.specs.Closed.{AreInRange, CoordInRange, SiteInRange}
+use Rattle.found_laws.specs.Ranges.{AreInRange, CoordInRange, IsInRange, SiteInRange}
 use Rattle.found_disks.specs.declared.reading.Journals.{Journals}
 use Rattle.found_disks.specs.Finding.{found_in, journal_on, sites_from, unless_empty}
 use Rattle.found_disks.specs.Reading.{AreRead, AreReadFrom}

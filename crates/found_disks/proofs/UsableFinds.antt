@@ -23,8 +23,8 @@ use Rattle.journal_disk.specs.Disk.{Image}
 use Rattle.frame_journal.specs.Journal.{Kept, records}
 use Rattle.coord_journal.specs.Spelling as Coordinators
 use Rattle.site_journal.specs.Spelling as Sites
-use Rattle.resume_laws.specs.FoundSessions.{AreOfDisks, AreUsable}
-use Rattle.resume_laws.proofs.PlanSites.{rise_all}
+use Rattle.found_laws.specs.FoundSessions.{AreOfDisks, AreUsable}
+use Rattle.found_laws.proofs.PlanSites.{rise_all}
 use Rattle.usable_journals.specs.Disks.{AreAllUnnamed, AreUsableFrom, IsUsableDisk, listed, member_at, members_from, on_disk}
 use Rattle.usable_journals.specs.SiteTests.{member_of}
 use Rattle.found_disks.specs.declared.reading.Journals.{Journals}

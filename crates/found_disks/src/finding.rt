@@ -1,8 +1,8 @@
 //! Whether a session may go on from nine journals.
 ghost use Rattle.std.specs.Prelude.{◌≡◌, IfOk, IfErr, IsTrue, None, OnOk, length, map};
 ghost use Rattle.frame_journal.specs.Journal.{records};
-ghost use Rattle.resume_laws.specs.Closed.{AreInRange};
-ghost use Rattle.resume_laws.specs.FoundSessions.{AreUsable};
+ghost use Rattle.found_laws.specs.Ranges.{AreInRange};
+ghost use Rattle.found_laws.specs.FoundSessions.{AreUsable};
 ghost use Rattle.found_disks.specs.Finding.{FindsAs, IsRefused, NamesOf, found_in};
 ghost use Rattle.found_disks.specs.Reading.{FaultsTell, images_of};
 

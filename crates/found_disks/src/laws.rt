@@ -6,7 +6,7 @@ ghost use Rattle.found_disks.specs.Finding.{IsFirstForeign, NamesOf};
 ghost use Rattle.found_disks.specs.FoundLines.{FoundSessionsBeginShortly};
 ghost use Rattle.found_disks.specs.Reading.{AreRead, IsFirstDamaged};
 
-use resume_laws::found_lines_are_few;
+use found_laws::found_lines_are_few;
 
 /// Journals are read, or one disk is the first that is damaged, and no other. Those that are read are usable, or one disk is the first that
 /// isn't, and no other.

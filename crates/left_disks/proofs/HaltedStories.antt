@@ -42,7 +42,7 @@ use Rattle.commit_laws.proofs.Links.{home-again, its-site, story_made}
 use Rattle.site_history.proofs.Journals.{IsSummed}
 use Rattle.site_history.proofs.SitesOfStories.{of_events}
 use Rattle.site_history.proofs.SummedPasts.{pasts_summed}
-use Rattle.resume_laws.proofs.PlanSites.{IsInRange, members_range}
+use Rattle.found_laws.proofs.PlanSites.{IsInRange, members_range}
 use Rattle.journal_disk.specs.Disk.{Image, Seen}
 use Rattle.coord_journal.specs.Spelling as Coordinators
 use Rattle.site_journal.specs.Spelling as Sites

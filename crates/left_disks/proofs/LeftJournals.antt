@@ -26,7 +26,7 @@ use Rattle.commit_laws.proofs.Declared.{is-declared, members_rise}
 use Rattle.commit_laws.proofs.Links.{home-again, its-site, story_made}
 use Rattle.site_history.proofs.SitesOfStories.{of_events}
 use Rattle.disk_laws.proofs.AllRules.{usable_sites}
-use Rattle.resume_laws.proofs.PlanSites.{IsInRange, members_range}
+use Rattle.found_laws.proofs.PlanSites.{IsInRange, members_range}
 use Rattle.journal_disk.specs.Disk.{Image, Seen}
 use Rattle.frame_journal.specs.Journal.{Kept, records}
 use Rattle.coord_journal.specs.Exact as coord_exact

@@ -9,7 +9,7 @@ use Rattle.fed_rules.specs.Resumed.{going_on, plan_of, resuming}
 use Rattle.fed_rules.specs.Right.{IsNext}
 use Rattle.fed_rules.specs.Sessions.{Session}
 use Rattle.fed_rules.specs.Story.{Story, story_in}
-use Rattle.resume_laws.specs.FoundSessions.{AreUsable}
+use Rattle.found_laws.specs.FoundSessions.{AreUsable}
 use Rattle.line_text.specs.Fits.{line_fits}
 use Rattle.line_laws.specs.Lines.{IsHeard}
 

@@ -15,7 +15,7 @@ use Rattle.audit_text.specs.Texts.{audit_of}
 use Rattle.run_audit.specs.declared.submitted.Submitted.{Submitted}
 use Rattle.run_audit.specs.Audits.{AgreesWhole, IsHanded, RunIsAudited, StandsBehind, verdict_of}
 use Rattle.session_outputs.specs.Disks.{is_used, sizes_of}
-use Rattle.session_outputs.specs.Texts.{disk_failed_text}
+use Rattle.outputs.specs.Texts.{disk_failed_text}
 use Rattle.mdb_top.specs.Audits.{AuditEnds, HandedEnds, IsSaid, IsVerdictPut, Names, TextEnds, agrees_text, differs_text, statuses}
 use Rattle.mdb_top.specs.Endings.{IsPutWhole}
 use Rattle.mdb_top.specs.Inputs.{SomeInput}

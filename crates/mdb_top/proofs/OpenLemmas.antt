@@ -10,7 +10,7 @@ use Rattle.fed_world.specs.Reopening.{AreSynced}
 use Rattle.file_disks.specs.declared.errors.OpenErr.{OpenErr}
 use Rattle.file_disks.specs.declared.errors.OpenErr.TheVariants as Open_err
 use Rattle.file_disks.specs.Stores.{IsLarge, journal_of}
-use Rattle.session_outputs.specs.Texts.{disk_failed_text}
+use Rattle.outputs.specs.Texts.{disk_failed_text}
 use Rattle.mdb_top.specs.Opening.{IsOpened, Opens, StopsAtOne, StoreSeen}
 use Rattle.mdb_top.specs.Streams.{Gets, Stream}
 use Rattle.mdb_top.specs.Texts.{disk_large_text, no_memory_text}

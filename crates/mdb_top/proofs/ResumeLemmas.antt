@@ -9,9 +9,9 @@ use Rattle.found_disks.specs.declared.errors.ReopenErr.{ReopenErr}
 use Rattle.found_disks.specs.declared.errors.ReopenErr.TheVariants.{Damaged, Disk, Foreign, Memory}
 use Rattle.left_disks.specs.Left.{IsLeft}
 use Rattle.resume_output.specs.Resumes.{AllGoesOn, GoesOnFromLeft, IsRefusedAs, ResumesAs, ResumesBroken, ResumesShort, ResumesWhole}
-use Rattle.session_outputs.specs.declared.output.Output.{Output}
-use Rattle.session_outputs.specs.declared.output.Output.TheVariants.{Whole, Broken}
-use Rattle.session_outputs.specs.Texts.{disk_failed_text}
+use Rattle.outputs.specs.declared.output.Output.{Output}
+use Rattle.outputs.specs.declared.output.Output.TheVariants.{Whole, Broken}
+use Rattle.outputs.specs.Texts.{disk_failed_text}
 use Rattle.mdb_top.specs.Audits.{IsSaid}
 use Rattle.mdb_top.specs.Endings.{GetsSome, IsPut, IsPutWhole}
 use Rattle.mdb_top.specs.Resuming.{IsRefusalPut, ResumeEnds, SomeFailed, SomeUntold}

@@ -5,12 +5,12 @@ use Rattle.order_laws.specs.Chains.{In}
 use Rattle.journal_disk.specs.Disk.{Seen}
 use Rattle.fed_world.specs.Faults.{faults_of}
 use Rattle.scenario_text.specs.declared.bad.BadLine.{BadLine}
-use Rattle.session_outputs.specs.declared.output.Output.{Output}
-use Rattle.session_outputs.specs.declared.output.Output.TheVariants.{Whole, Broken}
+use Rattle.outputs.specs.declared.output.Output.{Output}
+use Rattle.outputs.specs.declared.output.Output.TheVariants.{Whole, Broken}
 use Rattle.session_outputs.specs.Disks.{is_used, sizes_of}
 use Rattle.mdb_top.specs.Endings.{Carries, Ends, IsLedTo, IsPut, statuses}
 use Rattle.mdb_top.specs.Inputs.{SomeInput}
-use Rattle.session_outputs.specs.Outputs.{Account, IsOutput}
+use Rattle.outputs.specs.Outputs.{Account, IsOutput}
 use Rattle.mdb_top.specs.Streams.{IsCalm, IsRead, Stream}
 use Rattle.mdb_top.specs.Verdicts.{Spells, verdict}
 

@@ -13,7 +13,7 @@ use Rattle.audit_text.specs.Texts.{audit_of}
 use Rattle.run_audit.specs.declared.submitted.Submitted.{Submitted}
 use Rattle.run_audit.specs.Audits.{AgreesWhole, RunIsAudited, verdict_of}
 use Rattle.session_outputs.specs.Disks.{first_used, is_used, sizes_of}
-use Rattle.session_outputs.specs.Texts.{disk_failed_text, line}
+use Rattle.outputs.specs.Texts.{disk_failed_text, line}
 use Rattle.mdb_top.specs.Endings.{IsPutWhole, SomeBadLine}
 use Rattle.mdb_top.specs.Streams.{Gets, IsCalm, IsRead, Rose, Stream, WritesFront}
 use Rattle.mdb_top.specs.Texts.{bad_line_text, disk_used_text, no_memory_text, read_failed_text, too_long_text}

@@ -5,10 +5,10 @@ use Rattle.order_laws.specs.Chains.{In}
 use Rattle.journal_disk.specs.Disk.{Seen}
 use Rattle.fed_world.specs.Faults.{faults_of}
 use Rattle.scenario_text.specs.declared.bad.BadLine.{BadLine}
-use Rattle.session_outputs.specs.declared.output.Output.{Output}
-use Rattle.session_outputs.specs.declared.output.Output.TheVariants.{Whole, Broken}
+use Rattle.outputs.specs.declared.output.Output.{Output}
+use Rattle.outputs.specs.declared.output.Output.TheVariants.{Whole, Broken}
 use Rattle.session_outputs.specs.Disks.{first_used, is_used, sizes_of}
-use Rattle.session_outputs.specs.Outputs.{Account}
+use Rattle.outputs.specs.Outputs.{Account}
 use Rattle.mdb_top.specs.Streams.{Gets, IsCalm, IsRead, Rose, Stream, WritesFront}
 use Rattle.mdb_top.specs.Texts.{bad_line_text, disk_used_text, no_memory_text, read_failed_text, too_long_text}
 use Rattle.mdb_top.specs.Verdicts.{Verdict, TooLong, BadInput, Spells, verdict}

@@ -5,7 +5,7 @@ use Rattle.order_laws.specs.Chains.{In}
 use Rattle.journal_disk.specs.Disk.{Seen, synced_bytes}
 use Rattle.file_disks.specs.Stores.{IsLarge, IsNotLarge, journal_of}
 use Rattle.mdb_top.specs.Streams.{Gets, Stream}
-use Rattle.session_outputs.specs.Texts.{disk_failed_text}
+use Rattle.outputs.specs.Texts.{disk_failed_text}
 use Rattle.mdb_top.specs.Texts.{disk_large_text, no_memory_text}
 
 -- what is seen of a store over a call: whether it tells its journals; these before the call; and its count of

@@ -10,7 +10,7 @@ use Rattle.found_disks.specs.declared.errors.ReopenErr.TheVariants.{Damaged, Dis
 use Rattle.found_disks.specs.Faults.{faults_of}
 use Rattle.left_disks.specs.Left.{IsLeft}
 use Rattle.resume_output.specs.Resumes.{AllGoesOn, IsRefusedAs, ResumesBroken, ResumesShort, ResumesWhole}
-use Rattle.session_outputs.specs.Texts.{disk_failed_text}
+use Rattle.outputs.specs.Texts.{disk_failed_text}
 use Rattle.mdb_top.specs.Audits.{IsSaid}
 use Rattle.mdb_top.specs.Endings.{GetsAll, GetsFront, GetsSome}
 use Rattle.mdb_top.specs.Streams.{Gets, IsCalm, Rose, Stream}

@@ -3,7 +3,7 @@ use Rattle.std.specs.Prelude.{ℕ, List, ◌++◌, codes, decimal}
 use Rattle.scenario_text.specs.declared.bad.BadLine.{BadLine}
 use Rattle.scenario_text.specs.declared.bad.BadWhy.{BadWhy}
 use Rattle.scenario_text.specs.declared.bad.BadWhy.TheVariants as Bad
-use Rattle.session_outputs.specs.Texts.{line}
+use Rattle.outputs.specs.Texts.{line}
 
 abbrev pub usage_text : List ℕ
 usage_text = line (codes "usage: mdbfed replay | run | make NUMBER SITES TRANSACTIONS | audit | store FOLDER | resume FOLDER")

@@ -10,7 +10,7 @@ ghost use Rattle.mdb_top.specs.Inputs.{SomeInput};
 ghost use Rattle.mdb_top.specs.Opening.{Opens, SomeOpened, StopsAtOne, store_seen};
 ghost use Rattle.mdb_top.specs.Resuming.{ResumeEnds};
 ghost use Rattle.session_outputs.specs.Replays.{replaying};
-ghost use Rattle.session_outputs.specs.Texts.{disk_failed_text};
+ghost use Rattle.outputs.specs.Texts.{disk_failed_text};
 ghost use Rattle.mdb_top.specs.Streams.{Gets, stream};
 ghost use Rattle.mdb_top.specs.Texts as texts;
 ghost use Rattle.mdb_top.specs.Verdicts as verdicts;

@@ -1,7 +1,7 @@
 //! What the top call puts, and the status that goes with it.
 ghost use Rattle.std.specs.Prelude.{◌≡◌, [], ◌∷◌, IfOk};
 ghost use Rattle.order_laws.specs.Chains.{In};
-ghost use Rattle.session_outputs.specs.Texts.{disk_failed_text};
+ghost use Rattle.outputs.specs.Texts.{disk_failed_text};
 ghost use Rattle.mdb_top.specs.Audits.{IsSaid};
 ghost use Rattle.mdb_top.specs.Endings.{IsPut, IsPutWhole};
 ghost use Rattle.mdb_top.specs.Streams.{Gets, stream};
@@ -11,8 +11,8 @@ use crate::bad_lines::bad_line_text;
 use crate::streams::Sink;
 use crate::writing::put_all;
 use mdb_base::{Memory, put_number, put_text};
+use outputs::Output;
 use scenario_text::BadLine;
-use session_outputs::Output;
 use std::alloc::Global;
 
 /// Puts a text, as far as the sink takes it, and answers this status.

@@ -37,19 +37,19 @@ use Rattle.commit_laws.proofs.Declared.{protocols_rise, rising_on, rising_over}
 use Rattle.sum_laws.proofs.ReadAs.{coordinators_read}
 use Rattle.sum_laws.proofs.ReadAs.{some_coord_frame}
 use Rattle.resume_laws.specs.Again.{HasRoom, StoppedSessionsKeepOutcomes, StoppedSessionsRest, UsableSessionsLeaveUsable, left_again}
-use Rattle.resume_laws.specs.FoundSessions.{AreOfDisks, AreUsable, IsOfFormat}
+use Rattle.found_laws.specs.FoundSessions.{AreOfDisks, AreUsable, IsOfFormat}
 use Rattle.resume_laws.proofs.CoordAgain as CoordinatorAgain
 use Rattle.resume_laws.proofs.CoordMore.{IsGoingCoord}
-use Rattle.resume_laws.proofs.FoundHomes.{IsFound, same_members}
-use Rattle.resume_laws.proofs.FoundSessions.{all_sorted, begins, fits, nobody_first, nobody_on, opened, plan_sites, resumes, sessions_rest}
-use Rattle.resume_laws.proofs.GoesOn.{idle}
-use Rattle.resume_laws.proofs.OutcomeWalk.{outcomes_on}
-use Rattle.resume_laws.proofs.PlanSites.{IsInRange, members_range, rise_all}
-use Rattle.resume_laws.proofs.Readable.{same_home}
+use Rattle.found_laws.proofs.FoundHomes.{IsFound, same_members}
+use Rattle.found_laws.proofs.FoundSessions.{all_sorted, begins, fits, nobody_first, nobody_on, opened, plan_sites, resumes}
+use Rattle.resume_laws.proofs.FoundRests.{sessions_rest}
+use Rattle.found_laws.proofs.Idle.{begins_nothing, idle}
+use Rattle.found_laws.proofs.OutcomeWalk.{outcomes_on}
+use Rattle.found_laws.proofs.PlanSites.{IsInRange, members_range, rise_all}
+use Rattle.found_laws.proofs.FoundJournals.{same_home}
 use Rattle.resume_laws.proofs.SiteAgain.{journal_again}
 use Rattle.resume_laws.proofs.SiteGoes.{IsGoing, first_home}
 use Rattle.resume_laws.proofs.Stands as Disks
-use Rattle.resume_laws.proofs.Walk.{begins_nothing}
 
 record InRange (n : ℕ) : Type 0 where
   least : 0 < n

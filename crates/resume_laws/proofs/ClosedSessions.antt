@@ -8,7 +8,7 @@ use Rattle.closing_laws.specs.Bound.{ClosingIsShort, most_closing}
 use Rattle.closing_laws.proofs.Bound.{session_short}
 use Rattle.resume_laws.specs.Closed.{SessionsCloseAtRest, SessionsCloseShortly, SessionsStayUp}
 use Rattle.resume_laws.proofs.FoundFew.{found_few}
-use Rattle.resume_laws.proofs.FoundSessions.{rests, stays_up}
+use Rattle.resume_laws.proofs.FoundRests.{rests, stays_up}
 
 pub all_stay_up : ClosingStaysUp → SessionsStayUp
 all_stay_up fresh_up session (inl e) commands = subst (λ s. StaysUp s commands) (sym e.is) (fresh_up session.plan commands e.whole)

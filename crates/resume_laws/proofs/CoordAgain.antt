@@ -42,7 +42,7 @@ use Rattle.sum_laws.proofs.ReadAs.{coordinators_read}
 use Rattle.coord_laws.proofs.UsableCoordinators.{usable_go_on}
 use Rattle.coord_laws.proofs.RecordLists.{among_end}
 use Rattle.disk_laws.proofs.CoordOrder.{past_ended}
-use Rattle.resume_laws.proofs.CoordGentle.{NobodyIsOpen, closed_standing}
+use Rattle.found_laws.proofs.CoordGentle.{NobodyIsOpen, closed_standing}
 use Rattle.resume_laws.proofs.CoordMore.{IsGoingCoord, coord_alone, coord_checked, coord_ended, coord_front}
 use Rattle.resume_laws.proofs.Stands as Disks
 

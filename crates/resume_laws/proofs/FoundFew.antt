@@ -43,20 +43,19 @@ use Rattle.coord_laws.proofs.UsableCoordinators.{names_declared}
 use Rattle.commit_laws.proofs.Declared.{protocols_rise}
 use Rattle.commit_laws.proofs.FoundSessions.{session_goes_on}
 use Rattle.commit_laws.proofs.Links.{IsNext, home-again, linked}
-use Rattle.closing_laws.specs.Bound.{IsInRange}
+use Rattle.found_laws.specs.Ranges.{AreInRange, CoordInRange, IsInRange, SiteInRange}
 use Rattle.closing_laws.proofs.Bound.{HasFew}
 use Rattle.closing_laws.proofs.FewSites.{at_most_eight}
 use Rattle.closing_laws.proofs.FewTids.{few_found, few_tids}
 use Rattle.closing_laws.proofs.Lengths.{length_rising, length_sorted}
 use Rattle.closing_laws.proofs.Quiet.{none_live_at}
-use Rattle.resume_laws.specs.Closed.{AreInRange, CoordInRange, SiteInRange}
-use Rattle.resume_laws.specs.FoundSessions.{AreUsable}
+use Rattle.found_laws.specs.FoundSessions.{AreUsable}
 use Rattle.resume_laws.proofs.CoordMore.{read_more}
-use Rattle.resume_laws.proofs.FoundSessions.{begins, fits, lives_on, plan_sites, resumed_from}
-use Rattle.resume_laws.proofs.GoesOn.{idle}
-use Rattle.resume_laws.proofs.PlanSites.{rise_all}
+use Rattle.found_laws.proofs.FoundSessions.{begins, fits, plan_sites, resumed_from}
+use Rattle.resume_laws.proofs.FoundRests.{lives_on}
+use Rattle.found_laws.proofs.Idle.{begins_nothing, idle}
+use Rattle.found_laws.proofs.PlanSites.{rise_all}
 use Rattle.resume_laws.proofs.SitePrepares.{doubt_has}
-use Rattle.resume_laws.proofs.Walk.{begins_nothing}
 
 -- ---- what the coordinator's records name
 

@@ -46,12 +46,14 @@ use Rattle.closing_laws.proofs.Declared.{member_home}
 use Rattle.resume_laws.specs.Outcomes.{OutcomesStay, SettlesAgree}
 use Rattle.resume_laws.specs.Premises.{SaysSame, coord_left, site_left}
 use Rattle.resume_laws.proofs.DueLists.{same_installs}
-use Rattle.resume_laws.proofs.FoundHomes.{IsFound, each_homed, first_rows, found_past, homeless, no_past, same_members}
+use Rattle.found_laws.proofs.FoundHomes.{IsFound, each_homed, first_rows, found_past, homeless, no_past, same_members}
 use Rattle.resume_laws.proofs.GentleClosing.{closing_gentle}
 use Rattle.resume_laws.proofs.Left.{left_right}
-use Rattle.resume_laws.proofs.Opening.{IsFoundRight, coord_records, opens_right, session_begins}
-use Rattle.resume_laws.proofs.OutcomeWalk.{outcomes_on}
-use Rattle.resume_laws.proofs.Walk.{IsIdle, ResumesIn, resumes_on}
+use Rattle.resume_laws.proofs.OpensRight.{IsFoundRight, opens_right}
+use Rattle.found_laws.proofs.Opening.{coord_records, session_begins}
+use Rattle.found_laws.proofs.Idle.{idle}
+use Rattle.found_laws.proofs.OutcomeWalk.{outcomes_on}
+use Rattle.resume_laws.proofs.Walk.{ResumesIn, resumes_on}
 
 -- ---- who is in doubt by a journal, whatever its first rows
 
@@ -101,9 +103,6 @@ same_doubts : (xs ys : List SiteRecord) → doubts xs ≡ doubts ys → (g : Tid
 same_doubts xs ys e g = sym (carried_same xs g) ∙ ap (λ hs. doubt_of (carried hs) g) e ∙ carried_same ys g
 
 -- ---- the session
-
-pub idle : (found : Found) → IsIdle (plan_of found)
-idle found = record { locals = λ tx. refl; globals = λ tx. refl }
 
 member_among : (ms : List Participant) (site : SiteId) (home : Home) → Among (λ m. (m.site ≡ site) × (m.protocol ≡ home.protocol)) ms
     → (m : Participant) × In m ms × (m.site ≡ site) × (m.protocol ≡ home.protocol)

@@ -37,14 +37,14 @@ use Rattle.disk_laws.proofs.SiteFormat.{HasFormat, pasts_format}
 use Rattle.disk_laws.proofs.SiteLeft.{counts, first_founded, first_is}
 use Rattle.disk_laws.proofs.SiteRead.{Behind, Counts, Whole}
 use Rattle.resume_laws.specs.Again.{HasRoom, IsFoundAgain, LeftDisksAreFound, StopsKeepOutcomes, left_after, lines_of}
-use Rattle.resume_laws.specs.FoundSessions.{AreUsable, IsOfFormat, RowsRise}
+use Rattle.found_laws.specs.FoundSessions.{AreUsable, IsOfFormat, RowsRise}
 use Rattle.resume_laws.proofs.AgainSessions.{disks_of, each_journal, sessions_leave_usable, stopped_keep_outcomes}
-use Rattle.resume_laws.proofs.FoundSessions.{sessions_rest}
+use Rattle.resume_laws.proofs.FoundRests.{sessions_rest}
 use Rattle.mdb_base.proofs.ListLaws.{each_map}
 use Rattle.fed_rules.specs.Endings.{outcome_in}
 use Rattle.engine_laws.proofs.Rows.{rising_rows_after}
 use Rattle.resume_laws.proofs.GoesOn.{all_outcomes_stay, same_plan}
-use Rattle.resume_laws.proofs.PlanSites.{protocols_rise}
+use Rattle.found_laws.proofs.PlanSites.{protocols_rise}
 use Rattle.resume_laws.proofs.Readable.{disks_readable}
 use Rattle.resume_laws.proofs.SiteGoes.{IsGoing, epoch_same}
 

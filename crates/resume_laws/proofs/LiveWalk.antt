@@ -27,12 +27,12 @@ use Rattle.coord_laws.proofs.MadeLines.{coord_made}
 use Rattle.commit_laws.proofs.Links.{IsNext, linked}
 use Rattle.commit_laws.proofs.SiteShut.{restored-sealed}
 use Rattle.resume_laws.specs.Gentle.{IsGentle}
-use Rattle.resume_laws.proofs.CoordGentle.{NobodyIsOpen, decisions_alone, still_nobody}
-use Rattle.resume_laws.proofs.Opening.{session_begins}
-use Rattle.resume_laws.proofs.Settling.{each_here}
-use Rattle.resume_laws.proofs.SiteGentle.{IsDecide, gentle_line, gentle_resumes}
+use Rattle.found_laws.proofs.CoordGentle.{IsDecide, NobodyIsOpen, decisions_alone, each_here, still_nobody}
+use Rattle.found_laws.proofs.Opening.{session_begins}
+use Rattle.resume_laws.proofs.SiteGentle.{gentle_line, gentle_resumes}
 use Rattle.resume_laws.proofs.SiteLives.{NobodyLives, still_lifeless}
-use Rattle.resume_laws.proofs.Walk.{IsIdle, begins_nothing, of_cause}
+use Rattle.found_laws.proofs.Idle.{IsIdle, begins_nothing}
+use Rattle.resume_laws.proofs.Walk.{of_cause}
 
 pub record IsDormant (home : Home) (past : CoordPast) (here : SitePast) (sent : List ToSite) : Type 0 where
   pub untripped : trip here ≡ None

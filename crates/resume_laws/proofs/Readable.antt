@@ -1,9 +1,8 @@
 -- The disks that a session leaves are readable: they are usable, and say what the records said.
-use Rattle.std.proofs.Common.{◌≡◌, ◌<◌, ◌^◌, Bool, Option, Some, None, List, length, refl, sym, subst, ◌∙◌}
+use Rattle.std.proofs.Common.{◌≡◌, ◌<◌, ◌^◌, Bool, Some, List, length, sym, subst, ◌∙◌}
 use Rattle.mdb_base.specs.declared.names.Tx.{Tx}
 use Rattle.mdb_base.specs.Words.{Each}
 use Rattle.fed_rules.specs.declared.commands.Command.{Command}
-use Rattle.fed_rules.specs.declared.records.SiteRecord.{SiteRecord}
 use Rattle.fed_rules.specs.declared.scenario.Scenario.{Scenario}
 use Rattle.fed_rules.specs.CoordPast as Coordinator
 use Rattle.fed_rules.specs.CoordSums.{coord_journal_sum}
@@ -16,7 +15,6 @@ use Rattle.fed_rules.specs.SitePast.{SitePast, journal, records}
 use Rattle.fed_rules.specs.SiteRecords.{Home}
 use Rattle.fed_rules.specs.SiteSums.{journal_sum, site_sum}
 use Rattle.fed_rules.specs.Story.{coord_past, home_found, past_of, story_of}
-use Rattle.fed_rules.specs.Usable.{home_of_first}
 use Rattle.site_history.specs.SiteOrders.{OfSortedEvents}
 use Rattle.site_history.proofs.SitesOfStories.{of_events, sites_serial}
 use Rattle.commit_laws.proofs.Links.{home-again, its-site, story_goes_on}
@@ -39,14 +37,11 @@ use Rattle.resume_laws.specs.Premises.{CoordSaysSame, SaysSame, SiteSaysSame, co
 use Rattle.resume_laws.specs.Rightly.{DisksAreReadable, IsReadable, SessionsRest}
 use Rattle.resume_laws.specs.Tables.{TableFits}
 use Rattle.resume_laws.proofs.DueNumbers.{dues_differ}
-use Rattle.resume_laws.proofs.FoundHomes.{parts_are}
+use Rattle.found_laws.proofs.FoundHomes.{parts_are}
+use Rattle.found_laws.proofs.FoundJournals.{same_home}
 use Rattle.resume_laws.proofs.GoesOn.{any_home, any_installs, each_found}
 use Rattle.resume_laws.proofs.RestsAgain.{all_rest}
-use Rattle.resume_laws.proofs.PlanSites.{plan_sites, protocols_rise}
-
-pub same_home : (o : Option SiteRecord) → home_found o ≡ home_of_first o
-same_home None = refl
-same_home (Some first) = refl
+use Rattle.found_laws.proofs.PlanSites.{plan_sites, protocols_rise}
 
 -- ---- a site
 

@@ -22,7 +22,7 @@ use Rattle.closing_laws.specs.AtRest.{AllUp, IsAtRest, StaysUp}
 use Rattle.closing_laws.proofs.Closed.{calm_up}
 use Rattle.closing_laws.proofs.Onward.{IsCalm}
 use Rattle.closing_laws.proofs.Quiet.{none_live_at, nothing_passes, quiet_rests}
-use Rattle.resume_laws.proofs.CoordGentle.{NobodyIsOpen}
+use Rattle.found_laws.proofs.CoordGentle.{NobodyIsOpen}
 use Rattle.closing_laws.proofs.EndKnown.{IsUnknown, ended}
 use Rattle.closing_laws.proofs.Inquire.{settled}
 use Rattle.closing_laws.proofs.Ready.{UndeclaredAreSilent, brought_calm}

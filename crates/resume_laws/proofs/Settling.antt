@@ -1,10 +1,9 @@
 -- In a session that goes on without transactions every line that settles an attempt says its outcome: an invariant of one attempt at one site and at the
 -- coordinator, with what was sent between them.
-use Rattle.std.proofs.Common.{◌≡◌, ◌&&◌, ◌||◌, not, ◌⊎◌, inl, inr, Bool, true, false, cond, is_some, Some, None, List, [], ◌∷◌, ◌++◌, map, refl, sym, ap, ap₂, subst, ◌∙◌}
+use Rattle.std.proofs.Common.{◌≡◌, ◌&&◌, ◌||◌, not, ◌⊎◌, inl, inr, Bool, true, false, cond, is_some, Some, None, List, [], ◌∷◌, ◌++◌, refl, sym, ap, ap₂, subst, ◌∙◌}
 use Rattle.mdb_base.specs.declared.names.SiteId.{SiteId}
 use Rattle.mdb_base.specs.declared.names.Tid.{Tid}
-use Rattle.mdb_base.specs.Names.{same_site}
-use Rattle.mdb_base.specs.Words.{Among, those}
+use Rattle.mdb_base.specs.Words.{Among}
 use Rattle.mdb_base.proofs.NameLaws.{same_tid-refl}
 use Rattle.mdb_base.proofs.EachLaws.{among_split}
 use Rattle.order_laws.specs.Chains.{In}
@@ -18,7 +17,6 @@ use Rattle.fed_rules.specs.declared.events.SiteEvent.{SiteEvent}
 use Rattle.fed_rules.specs.declared.events.SiteEvent.TheVariants as Ev
 use Rattle.fed_rules.specs.declared.messages.FromSite.{FromSite}
 use Rattle.fed_rules.specs.declared.messages.FromSite.TheVariants as From
-use Rattle.fed_rules.specs.declared.messages.Sent.{Sent}
 use Rattle.fed_rules.specs.declared.messages.ToSite.{ToSite}
 use Rattle.fed_rules.specs.declared.messages.ToSite.TheVariants as To
 use Rattle.fed_rules.specs.Coord.{missing, protocol_of}
@@ -41,8 +39,8 @@ use Rattle.coord_laws.proofs.Sound.{CoordSound, kept_from}
 use Rattle.coord_laws.proofs.Taken.{acked_taken}
 use Rattle.coord_laws.proofs.Turns.{Turn, same_outcome}
 use Rattle.commit_laws.proofs.AgreeCoord.{to_site, told-to}
-use Rattle.resume_laws.proofs.CoordGentle.{AreDecisions, NobodyIsOpen, closed_standing, still_nobody}
-use Rattle.resume_laws.proofs.SiteGentle.{Gentle, IsDecide}
+use Rattle.found_laws.proofs.CoordGentle.{AreDecisions, IsDecide, NobodyIsOpen, closed_standing, each_here, still_nobody}
+use Rattle.resume_laws.proofs.SiteGentle.{Gentle}
 
 -- the site isn't in doubt of the attempt, or presumes this decision
 abbrev pub IsRight : Home → Tid → Decision → SitePast → Type 0
@@ -126,16 +124,6 @@ was_acked protocols g past d home nobody m = by_test (has_acked past g home.site
     by_test false e = absurd (nobody_none (λ k. (k.site ≡ home.site) × (k.protocol ≡ home.protocol)) (missing protocols past g d) nobody
         (those_among (λ k. (k.site ≡ home.site) × (k.protocol ≡ home.protocol)) (λ k. not (has_acked past g k.site))
         (λ k is. ap not (ap (has_acked past g) is.0 ∙ e)) (required protocols (Coordinator.records past) g d) m))
-
-pub each_here : (site : SiteId) (sends : List Sent) (m : ToSite) → AreDecisions sends → In m (to_site site sends) → IsDecide m
-each_here site [] m each i = absurd i
-each_here site (s ∷ sends) m each i = by_test (same_site s.site site) i (each_here site sends m each.1)
-  where
-    by_test : (b : Bool) → In m (map (λ k. k.message) (cond b (s ∷ those (λ k. same_site k.site site) sends) (those (λ k. same_site k.site site) sends)))
-        → (In m (to_site site sends) → IsDecide m) → IsDecide m
-    by_test true (inl e) k = subst IsDecide e each.0
-    by_test true (inr j) k = k j
-    by_test false j k = k j
 
 -- the next line of the coordinator
 pub record CoordGoes (protocols : List Participant) (home : Home) (g : Tid) (past : CoordPast) (back : List FromSite) (event : CoordEvent) (x : CoordHappening) : Type 0 where

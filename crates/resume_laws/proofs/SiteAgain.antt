@@ -30,8 +30,8 @@ use Rattle.site_history.specs.FoundSites.{IsFoundSite}
 use Rattle.site_history.proofs.Journals.{standing_trimmed}
 use Rattle.site_history.proofs.OpenedSites.{found_says_all, front, reopened}
 use Rattle.sum_laws.proofs.ReadAs.{sites_read}
-use Rattle.resume_laws.specs.FoundSessions.{RowsRise}
-use Rattle.resume_laws.specs.Gentle.{IsResuming}
+use Rattle.found_laws.specs.FoundSessions.{RowsRise}
+use Rattle.found_laws.specs.Resuming.{IsResuming}
 use Rattle.resume_laws.proofs.SiteGoes.{IsGoing, epoch_same, goes_alone, goes_checked, goes_ended, goes_started, going_front, later}
 use Rattle.resume_laws.proofs.Stands as Disks
 

@@ -23,12 +23,8 @@ use Rattle.fed_rules.specs.Runs.{EngineLine, Aborts}
 use Rattle.fed_rules.specs.Site.{answered, checkpoint, of_ask, of_back, of_check, of_decide, of_drop, of_give, settles, site_line, unheld, with_lines}
 use Rattle.fed_rules.specs.SitePast.{SiteHappening, SitePast, disk, epoch, is_local, live, records, trip, trip_of}
 use Rattle.fed_rules.specs.SiteRecords.{Held, Home, doubt_of, site_frame}
-use Rattle.resume_laws.specs.Gentle.{IsResuming}
-
--- a decision
-abbrev pub IsDecide : ToSite → Type 0
-IsDecide (To.Decide tid decision) = Unit {0}
-IsDecide message = ⊥
+use Rattle.found_laws.specs.Resuming.{IsResuming}
+use Rattle.found_laws.proofs.CoordGentle.{IsDecide}
 
 -- an event that comes to a site of such a session
 abbrev pub IsGentleEvent : SiteEvent → Type 0

@@ -25,7 +25,7 @@ use Rattle.site_history.proofs.Doubtful.{are_doubts, doubts_are}
 use Rattle.site_history.proofs.OpenedSites.{records_are}
 use Rattle.site_history.proofs.OpenedSums.{read_more}
 use Rattle.sum_laws.proofs.ReadAs.{sites_read}
-use Rattle.resume_laws.specs.FoundSessions.{RowsRise}
+use Rattle.found_laws.specs.FoundSessions.{RowsRise}
 use Rattle.resume_laws.proofs.SiteMore.{local_counts, usable_alone, usable_checked, usable_ended, usable_front, usable_started}
 use Rattle.resume_laws.proofs.SumFacts.{says, site_found, sum_apart, sum_below, sum_doubts, sum_held, sum_locals, sum_of_some, sum_one, sum_parted, sum_rise, sum_within}
 

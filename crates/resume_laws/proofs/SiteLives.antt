@@ -18,7 +18,7 @@ use Rattle.fed_rules.specs.SiteRecords.{Home, site_frame, start_of}
 use Rattle.commit_laws.proofs.SiteShut.{restored-sealed}
 use Rattle.federation_laws.proofs.SiteMoves.{live-next}
 use Rattle.closing_laws.proofs.Calm.{ask_mild, decide_mild, drop_mild}
-use Rattle.resume_laws.specs.Gentle.{IsResuming}
+use Rattle.found_laws.specs.Resuming.{IsResuming}
 
 -- nothing lives
 abbrev pub NobodyLives : Home → SitePast → Type 0

@@ -23,7 +23,7 @@ use Rattle.fed_rules.specs.SiteRecords.{Held, Home, doubt_of, prepared_tids, sit
 use Rattle.fed_rules.specs.SiteSums.{carried}
 use Rattle.site_history.proofs.OpenedSites.{disk_is}
 use Rattle.site_history.proofs.Starts.{EachAppend, append_take, doubt_among, each_after}
-use Rattle.resume_laws.specs.Gentle.{IsResuming}
+use Rattle.found_laws.specs.Resuming.{IsResuming}
 
 module _ (P : Tid → Type 0) where
   -- the attempt of a Prepared record has the fact

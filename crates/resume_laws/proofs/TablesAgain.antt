@@ -41,9 +41,10 @@ use Rattle.resume_laws.specs.Premises.{SaysSame, coord_left, site_left}
 use Rattle.resume_laws.specs.Tables.{NumbersDiffer, TableFits, TablesAreSerial}
 use Rattle.resume_laws.proofs.DueLists.{IsLast, all_settled_on, last_due, last_once, look_up_alone, same_installs, same_look_ups, same_site_rows}
 use Rattle.resume_laws.proofs.GentleClosing.{closing_gentle}
-use Rattle.resume_laws.proofs.GoesOn.{IsSiteOf, any_home, any_installs, idle, same_doubt, settles_agree, site_of}
+use Rattle.resume_laws.proofs.GoesOn.{IsSiteOf, any_home, any_installs, same_doubt, settles_agree, site_of}
+use Rattle.found_laws.proofs.Idle.{idle}
 use Rattle.resume_laws.proofs.LiveWalk.{opens_dormant}
-use Rattle.resume_laws.proofs.Opening.{session_begins}
+use Rattle.found_laws.proofs.Opening.{session_begins}
 use Rattle.resume_laws.proofs.RestsAgain.{all_rest}
 use Rattle.resume_laws.proofs.Tails.{IsTail, Tail, tails_on}
 

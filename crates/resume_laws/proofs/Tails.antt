@@ -32,7 +32,8 @@ use Rattle.rules_laws.proofs.Lines.{line_is}
 use Rattle.resume_laws.specs.Gentle.{IsGentle}
 use Rattle.resume_laws.proofs.LiveWalk.{IsDormantIn, dormant_on}
 use Rattle.resume_laws.proofs.SiteGentle.{IsGentleEvent}
-use Rattle.resume_laws.proofs.Walk.{IsIdle, of_cause}
+use Rattle.found_laws.proofs.Idle.{IsIdle}
+use Rattle.resume_laws.proofs.Walk.{of_cause}
 
 -- a record that such a session appends
 abbrev pub IsTail : SitePast → SiteRecord → Type 0

@@ -1,7 +1,6 @@
 -- Through a session that goes on from the disks that it finds, without transactions, and in which nothing stops.
-use Rattle.std.proofs.Common.{◌≡◌, Bool, true, false, cond, Some, None, List, [], ◌∷◌, ◌++◌, refl, sym, ap, subst, ◌∙◌}
+use Rattle.std.proofs.Common.{◌≡◌, Bool, true, false, cond, Some, List, [], ◌∷◌, ◌++◌, refl, sym, ap, subst, ◌∙◌}
 use Rattle.mdb_base.specs.declared.names.Tid.{Tid}
-use Rattle.mdb_base.specs.declared.names.Tx.{Tx}
 use Rattle.mdb_base.specs.Names.{same_site}
 use Rattle.mdb_base.specs.Words.{Each}
 use Rattle.mdb_base.proofs.OptionLaws.{some_parts}
@@ -12,35 +11,28 @@ use Rattle.presumptions.specs.declared.Decision.{Decision}
 use Rattle.order_laws.proofs.InLaws.{item_at-in}
 use Rattle.fed_rules.specs.declared.commands.Command.{Command}
 use Rattle.fed_rules.specs.declared.commands.Command.TheVariants as Cmd
-use Rattle.fed_rules.specs.declared.events.CoordEvent.{CoordEvent}
-use Rattle.fed_rules.specs.declared.events.CoordEvent.TheVariants as Coord_event
 use Rattle.fed_rules.specs.declared.events.SiteEvent.{SiteEvent}
 use Rattle.fed_rules.specs.declared.events.SiteEvent.TheVariants as Ev
 use Rattle.fed_rules.specs.declared.messages.ToSite.{ToSite}
 use Rattle.fed_rules.specs.declared.scenario.Scenario.{Scenario}
-use Rattle.fed_rules.specs.Scenarios.{global_program, home_of, local_home, policy, protocols}
+use Rattle.fed_rules.specs.Scenarios.{home_of, policy, protocols}
 use Rattle.fed_rules.specs.Sessions.{Session}
 use Rattle.fed_rules.specs.Site.{site_line}
 use Rattle.fed_rules.specs.SiteRecords.{Home}
 use Rattle.fed_rules.specs.Story.{AtCoordinator, AtSite, Happened, Nowhere, Story, coord_past, happens, past_of, sends_from, sends_to, sent_from, sent_to, story_in, with_coordinator, with_site}
 use Rattle.rules_laws.specs.Lines.{IsLine, SiteCause}
 use Rattle.rules_laws.proofs.Lines.{line_is}
-use Rattle.rules_laws.proofs.CoordPasts.{BeginsNothing}
 use Rattle.coord_laws.proofs.Lines.{coord_lines}
 use Rattle.coord_laws.proofs.MadeLines.{coord_made}
 use Rattle.coord_laws.proofs.Sound.{CoordSound}
 use Rattle.commit_laws.proofs.Declared.{is-declared}
 use Rattle.commit_laws.proofs.FoundSessions.{CoordinatorFits, session_sound}
 use Rattle.commit_laws.proofs.Links.{CoordCame, IsNext, linked, member_of, numbered}
+use Rattle.found_laws.proofs.CoordGentle.{IsDecide, decisions_alone}
+use Rattle.found_laws.proofs.Idle.{IsIdle, begins_nothing, local_never}
 use Rattle.resume_laws.specs.Gentle.{IsGentle}
-use Rattle.resume_laws.proofs.CoordGentle.{decisions_alone}
 use Rattle.resume_laws.proofs.Settling.{CoordGoes, Resumes, coord_goes, site_goes}
-use Rattle.resume_laws.proofs.SiteGentle.{IsDecide, IsGentleEvent, gentle_line}
-
--- a scenario without transactions
-pub record IsIdle (scenario : Scenario) : Type 0 where
-  pub locals : (tx : Tx) → local_home scenario tx ≡ None
-  pub globals : (tx : Tx) → global_program scenario tx ≡ None
+use Rattle.resume_laws.proofs.SiteGentle.{IsGentleEvent, gentle_line}
 
 -- the invariant in a story
 abbrev pub ResumesIn : Scenario → Home → Tid → Decision → Story → Type 0
@@ -51,9 +43,6 @@ ResumesIn scenario home g verdict story =
 pub record IsQuietly (sent : List ToSite) (event : SiteEvent) : Type 0 where
   pub gentle : IsGentleEvent event
   pub comes : (m : ToSite) → event ≡ Ev.Give m → In m sent
-
-pub local_never : {A : Type 0} (scenario : Scenario) (tx : Tx) (home : Home) → IsIdle scenario → local_home scenario tx ≡ Some home → A
-local_never scenario tx home idle e = let clash : Some home ≡ None = sym e ∙ idle.locals tx in cc
 
 message_in : ToSite → SiteEvent → ToSite
 message_in other (Ev.Give message) = message
@@ -83,18 +72,6 @@ of_cause scenario home story (Cmd.Go tx) event idle gentle decides c = absurd c
 of_cause scenario home story (Cmd.Again tid) event idle gentle decides c = absurd c
 of_cause scenario home story (Cmd.Late tid) event idle gentle decides c = absurd c
 of_cause scenario home story (Cmd.Take site place) event idle gentle decides c = absurd c
-
--- the event of the coordinator
-pub begins_nothing : (scenario : Scenario) (story : Story) (event : CoordEvent) → IsIdle scenario → CoordCame scenario story event → BeginsNothing event
-begins_nothing scenario story (Coord_event.Go t steps) idle came = let clash : Some steps ≡ None = sym came.1 ∙ idle.globals t.tx in cc
-begins_nothing scenario story (Coord_event.Take site message) idle came = tt
-begins_nothing scenario story (Coord_event.Again t) idle came = tt
-begins_nothing scenario story (Coord_event.Late t) idle came = tt
-begins_nothing scenario story (Coord_event.Fate tx) idle came = tt
-begins_nothing scenario story (Coord_event.Halt cut) idle came = tt
-begins_nothing scenario story (Coord_event.Trip calls cut) idle came = tt
-begins_nothing scenario story Coord_event.Back idle came = tt
-begins_nothing scenario story Coord_event.Check idle came = tt
 
 module _ (scenario : Scenario) (idle : IsIdle scenario) (home : Home) (declared : home_of scenario home.site ≡ Some home) (g : Tid) (verdict : Decision) where
   -- whatever happens next at a command that stops nothing

@@ -9,7 +9,7 @@ use Rattle.fed_rules.specs.Resumed.{plan_of, resumed_lines}
 use Rattle.fed_rules.specs.Scenarios.{protocols}
 use Rattle.fed_rules.specs.Usable.{AreUnnamed, IsUsableCoordinator, IsUsableSite}
 use Rattle.fed_rules.proofs.Opened.{opened}
-use Rattle.resume_laws.specs.FoundSessions.{AreUsable}
+use Rattle.found_laws.specs.FoundSessions.{AreUsable}
 use Rattle.resume_laws.specs.WorkedDisks.{begun, one_local, two_disks, worked_lines}
 
 none_among : ⊥ ⊎ (⊥ ⊎ ⊥) → ⊥

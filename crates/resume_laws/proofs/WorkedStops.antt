@@ -16,9 +16,9 @@ use Rattle.fed_rules.specs.SiteRecords.{Held, kept_held}
 use Rattle.fed_rules.specs.Usable.{AreUnnamed, IsUsableCoordinator, IsUsableSite}
 use Rattle.fed_rules.proofs.Opened.{opened}
 use Rattle.resume_laws.specs.Again.{left_again}
-use Rattle.closing_laws.specs.Bound.{IsInRange}
-use Rattle.resume_laws.specs.Closed.{CoordInRange, IsSession}
-use Rattle.resume_laws.specs.FoundSessions.{AreOfDisks, AreUsable}
+use Rattle.found_laws.specs.Ranges.{CoordInRange, IsInRange}
+use Rattle.resume_laws.specs.Closed.{IsSession}
+use Rattle.found_laws.specs.FoundSessions.{AreOfDisks, AreUsable}
 use Rattle.resume_laws.specs.WorkedDisks.{first_try}
 use Rattle.resume_laws.specs.WorkedStops.{KnowsAForgottenOne, committed, in_doubt, left_behind, lines_behind, newest_left, one, prepared, set_up, stopped_session}
 

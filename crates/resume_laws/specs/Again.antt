@@ -13,7 +13,7 @@ use Rattle.fed_rules.specs.SiteRecords.{epoch_of}
 use Rattle.fed_rules.specs.Story.{Story, story_in, story_of}
 use Rattle.fed_rules.specs.Usable.{read}
 use Rattle.closing_laws.specs.AtRest.{IsAtRest}
-use Rattle.resume_laws.specs.FoundSessions.{AreUsable, IsOfFormat}
+use Rattle.found_laws.specs.FoundSessions.{AreUsable, IsOfFormat}
 
 -- below 2^31 the epoch leaves room for so many starts
 abbrev pub HasRoom : ℕ → Journal SiteRecord → Type 0

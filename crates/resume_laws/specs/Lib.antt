@@ -1,6 +1,5 @@
 pub mod Again
 pub mod Closed
-pub mod FoundSessions
 pub mod Gentle
 pub mod Outcomes
 pub mod Premises

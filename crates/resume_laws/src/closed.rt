@@ -1,5 +1,5 @@
 //! How a session is closed, whether it began with empty disks or goes on from usable ones.
-ghost use Rattle.resume_laws.specs.Closed.{FoundLinesAreFew, FoundLinesFit, SessionsCloseShortly, SessionsCloseAtRest, SessionsStayUp};
+ghost use Rattle.resume_laws.specs.Closed.{SessionsCloseShortly, SessionsCloseAtRest, SessionsStayUp};
 
 use closing_laws::{closed_sessions_rest, closing_is_bounded, closing_stays_up};
 
@@ -23,10 +23,3 @@ pub fn sessions_close_shortly()
 {
     closing_is_bounded();
 }
-
-/// A session that goes on from usable disks begins at its sites with few lines: one for each of at most eight sites, and one for each attempt that a record
-/// names, at the least 5 bytes of its payload. So they are fewer than 2^27 where the payloads of no journal have more than 67,108,864 bytes.
-pub fn found_lines_are_few()
-    ensures few { FoundLinesAreFew }
-    ensures fits { FoundLinesFit }
-{}

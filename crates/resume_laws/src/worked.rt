@@ -5,7 +5,7 @@ ghost use Rattle.fed_rules.specs.Scenarios.{protocols};
 ghost use Rattle.fed_rules.specs.Usable.{IsUsableCoordinator, IsUsableSite};
 ghost use Rattle.resume_laws.specs.Again.{left_again};
 ghost use Rattle.resume_laws.specs.Closed.{IsSession};
-ghost use Rattle.resume_laws.specs.FoundSessions.{AreUsable};
+ghost use Rattle.found_laws.specs.FoundSessions.{AreUsable};
 ghost use Rattle.resume_laws.specs.WorkedDisks.{begun, one_local, two_disks, worked_lines};
 ghost use Rattle.resume_laws.specs.WorkedStops.{KnowsAForgottenOne, in_doubt, left_behind, lines_behind, newest_left, stopped_session};
 

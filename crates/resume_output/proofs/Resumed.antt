@@ -13,7 +13,7 @@ use Rattle.fed_rules.specs.Resumed.{going_on, plan_of, resuming}
 use Rattle.fed_rules.specs.Sessions.{Session}
 use Rattle.fed_rules.specs.Story.{story_in, story_of}
 use Rattle.journal_disk.specs.Disk.{Image, Seen}
-use Rattle.resume_laws.specs.FoundSessions.{AreUsable}
+use Rattle.found_laws.specs.FoundSessions.{AreUsable}
 use Rattle.line_text.specs.Fits.{line_fits}
 use Rattle.line_laws.specs.Resumed.{ResumedLinesFit}
 use Rattle.line_laws.specs.Lines.{IsHeard}
@@ -34,11 +34,11 @@ use Rattle.fed_world.specs.Lines.{AreLinesIn}
 use Rattle.fed_world.specs.Reporting.{found_report, report_by, report_for}
 use Rattle.closing.specs.Towards.{BreaksAt, IsShort}
 use Rattle.closing.proofs.Towards.{calm_since}
-use Rattle.session_outputs.proofs.Holding.{AreSized, all_sized}
-use Rattle.session_outputs.proofs.Kept.{actor_breaks, stands_keeps}
-use Rattle.session_outputs.specs.declared.output.Output.{Output}
-use Rattle.session_outputs.specs.declared.output.Output.TheVariants.{Whole, Broken}
-use Rattle.session_outputs.specs.Outputs.{IfBroken, IfWhole}
+use Rattle.outputs.proofs.Sized.{AreSized, all_sized}
+use Rattle.outputs.proofs.Kept.{actor_breaks, stands_keeps}
+use Rattle.outputs.specs.declared.output.Output.{Output}
+use Rattle.outputs.specs.declared.output.Output.TheVariants.{Whole, Broken}
+use Rattle.outputs.specs.Outputs.{IfBroken, IfWhole}
 use Rattle.resume_output.specs.Resumes.{AllGoesOn, BreaksBehind, GoesOnFromLeft, IsRefusedAs, NoneIsBad, ResumesAs, ResumesBroken, ResumesShort, ResumesWhole, StandsBehind, answered}
 
 -- its report is that of what is found: the journal of a coordinator is there

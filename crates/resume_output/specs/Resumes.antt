@@ -9,7 +9,7 @@ use Rattle.fed_rules.specs.Resumed.{going_on, plan_of, resumed, resuming}
 use Rattle.fed_rules.specs.Sessions.{Session}
 use Rattle.fed_rules.specs.Story.{Story, story_in, story_of}
 use Rattle.closing_laws.specs.AtRest.{IsAtRest}
-use Rattle.resume_laws.specs.FoundSessions.{AreUsable}
+use Rattle.found_laws.specs.FoundSessions.{AreUsable}
 use Rattle.journal_disk.specs.Disk.{Seen}
 use Rattle.line_text.specs.Spelling.{lines_bytes}
 use Rattle.report_text.specs.Spelling.{rest_bytes}
@@ -25,11 +25,11 @@ use Rattle.fed_world.specs.Lines.{AreLinesIn}
 use Rattle.fed_world.specs.Reporting.{found_report}
 use Rattle.fed_world.specs.Worlds.{Rests}
 use Rattle.closing.specs.Between.{WereCalm}
-use Rattle.session_outputs.specs.Breaks.{ActorStops}
-use Rattle.session_outputs.specs.Kept.{CoordKeeps, KeepAll, KeepOthers, SiteKeeps}
-use Rattle.session_outputs.specs.declared.output.Output.{Output}
-use Rattle.session_outputs.specs.declared.output.Output.TheVariants.{Whole, Broken}
-use Rattle.session_outputs.specs.Texts.{disk_failed_text}
+use Rattle.outputs.specs.Stops.{ActorStops}
+use Rattle.outputs.specs.Kept.{CoordKeeps, KeepAll, KeepOthers, SiteKeeps}
+use Rattle.outputs.specs.declared.output.Output.{Output}
+use Rattle.outputs.specs.declared.output.Output.TheVariants.{Whole, Broken}
+use Rattle.outputs.specs.Texts.{disk_failed_text}
 
 -- ---- what is found
 

@@ -7,4 +7,3 @@ mod resuming;
 
 pub use found_disks::ReopenErr;
 pub use resuming::resume_output_of;
-pub use session_outputs::Output;

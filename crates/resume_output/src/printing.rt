@@ -3,13 +3,13 @@ ghost use Rattle.std.specs.Prelude.{IsTrue};
 ghost use Rattle.mdb_base.specs.Words.{Each};
 ghost use Rattle.line_text.specs.Fits.{line_fits};
 ghost use Rattle.fed_world.specs.Worlds.{EachStory, Recalls, SomeStory};
-ghost use Rattle.session_outputs.specs.Outputs.{IfWhole};
+ghost use Rattle.outputs.specs.Outputs.{IfWhole};
 ghost use Rattle.resume_output.specs.Resumes.{IsPrintedBehind, IsResumed};
 
 use fed_world::World;
 use mdb_base::Memory;
+use outputs::{Output, put_lines};
 use report_text::put_rest;
-use session_outputs::{Output, put_lines};
 use std::alloc::Global;
 
 /// The lines of a world at rest that goes on from disks, and behind them its report, without the order and the reads: nothing is known of

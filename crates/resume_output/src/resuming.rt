@@ -14,7 +14,7 @@ use journal_disk::Disk;
 use left_disks::{left_disks_are_accepted, left_disks_go_on};
 use line_laws::{resumed_lines_fit, sessions_close_heard};
 use mdb_base::Memory;
-use session_outputs::{Output, broken};
+use outputs::{Output, broken};
 use std::alloc::Global;
 
 /// The most bytes of a journal from which a session goes on.

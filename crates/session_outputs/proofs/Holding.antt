@@ -1,5 +1,5 @@
 -- What is on the nine disks of a world: behind some commands, where it is at rest, and where a call of a disk failed.
-use Rattle.std.proofs.Common.{◌≡◌, ℕ, zero, suc, ◌<◌, Bool, true, false, IsTrue, Option, Some, None, List, [], ◌∷◌, ◌++◌, length, map, slice_get, inl, inr, refl, sym, ◌∙◌, ap, subst, arith}
+use Rattle.std.proofs.Common.{◌≡◌, ℕ, zero, suc, Bool, true, false, IsTrue, Option, Some, None, List, [], ◌∷◌, ◌++◌, length, slice_get, inl, inr, refl, sym, ◌∙◌, subst, arith}
 use Rattle.std.proofs.lemmas.Bool.{not-false}
 use Rattle.mdb_base.specs.declared.names.SiteId.{SiteId}
 use Rattle.mdb_base.specs.Words.{Each}
@@ -7,7 +7,6 @@ use Rattle.mdb_base.proofs.JoinLaws.{nothing_left}
 use Rattle.order_laws.specs.Chains.{In}
 use Rattle.rules_laws.proofs.Declared.{home-again, its-site}
 use Rattle.fed_rules.specs.declared.commands.Command.{Command}
-use Rattle.fed_rules.specs.declared.events.CoordEvent.{CoordEvent}
 use Rattle.fed_rules.specs.declared.events.SiteEvent.{SiteEvent}
 use Rattle.fed_rules.specs.declared.scenario.Scenario.{Scenario}
 use Rattle.fed_rules.specs.Requests.{Request, Submits, Declines}
@@ -15,7 +14,7 @@ use Rattle.fed_rules.specs.Scenarios.{global_program, home_of}
 use Rattle.fed_rules.specs.SitePast.{SitePast, disk}
 use Rattle.fed_rules.specs.SiteRecords.{Home}
 use Rattle.fed_rules.specs.Sessions.{fresh}
-use Rattle.fed_rules.specs.Story.{Story, coord_past, coord_requested, happens, past_of, requested, story_of}
+use Rattle.fed_rules.specs.Story.{Story, coord_past, happens, past_of, requested, story_of}
 use Rattle.journal_disk.specs.Disk.{Seen}
 use Rattle.actor_store.specs.declared.errors.StepErr.TheVariants as Step_err
 use Rattle.actor_store.specs.Store.{is_up, stored}
@@ -24,17 +23,13 @@ use Rattle.closing_laws.specs.AtRest.{IsAtRest}
 use Rattle.fed_rules.specs.CoordPast.{CoordPast}
 use Rattle.fed_rules.specs.CoordPast as Coordinator
 use Rattle.global_manager.specs.declared.manager.GlobalManager.{GlobalManager}
-use Rattle.global_manager.specs.Stands as Manager
 use Rattle.conservative_take.specs.declared.any_policy.AnyPolicy.{AnyPolicy}
 use Rattle.any_engine.specs.declared.engine.AnyEngine.{AnyEngine}
 use Rattle.local_dbms.specs.declared.dbms.LocalDbms.{LocalDbms}
 use Rattle.local_dbms.specs.Stands as Dbms
-use Rattle.local_dbms.specs.Stands.{OwnPrograms, own_programs}
+use Rattle.local_dbms.specs.Stands.{own_programs}
 use Rattle.site_core.specs.Made.{was_found}
-use Rattle.site_core.specs.Stands.{StopAt, stopped_past}
 use Rattle.coord_core.specs.Found as Coord_found
-use Rattle.coord_core.specs.Stands.{stopped_before, stopped_within}
-use Rattle.coord_tables.specs.Terms.{Terms}
 use Rattle.fed_world.specs.declared.world.World.{World}
 use Rattle.fed_world.specs.Asks.{terms_of}
 use Rattle.fed_world.specs.Faults.{RisesAt, faults_of}
@@ -44,31 +39,15 @@ use Rattle.fed_world.specs.SettingUp.{EmptyBut, IsSetUp, StopsForDisk, StopsForM
 use Rattle.closing.specs.Between.{WereCalm}
 use Rattle.closing.specs.FreshTowards.{BreaksAt}
 use Rattle.closing.proofs.Towards.{calm_since}
-use Rattle.session_outputs.specs.Breaks.{BreaksAtNext, BreaksSetUp, CoordinatorStops, SiteStops}
+use Rattle.session_outputs.specs.Breaks.{BreaksAtNext, BreaksSetUp}
 use Rattle.left_disks.specs.Holding.{CoordHolds, HoldAll, HoldOthers, HoldsAt, SiteHolds}
 use Rattle.session_outputs.specs.Disks.{AreSetUp, HoldFrames, NothingBut, frames_at, site_frames}
 use Rattle.session_outputs.specs.Outcomes.{StartsShort}
 use Rattle.session_outputs.proofs.NotFound.{before_not_found, coord_not_found, site_not_found, stopped_not_found, within_not_found}
-use Rattle.session_outputs.proofs.Recalled.{site_held}
+use Rattle.outputs.proofs.Recalled.{site_held}
+use Rattle.outputs.proofs.Sized.{AreSized, all_sized, numbered, one_at, there_at}
+use Rattle.outputs.proofs.Stops.{coord_stops, site_stops}
 use Rattle.session_outputs.proofs.Stores.{coord_bytes, coord_whole, site_bytes, site_whole}
-
--- these disks tell as many bytes as they have
-abbrev pub AreSized : List Seen → Type 0
-AreSized disks = (place : ℕ) (seen : Seen) → slice_get disks place ≡ Some seen → length seen.image.bytes ≡ seen.size
-
--- so do all disks of a type of which each does
-pub all_sized : {D : Type 0} (see : D → Seen) → ((one : D) → length (see one).image.bytes ≡ (see one).size) → (items : List D) → AreSized (map see items)
-all_sized see sized [] place seen at = absurd cc
-all_sized see sized (one ∷ items) zero seen at = let same : see one ≡ seen = cc in subst (λ (s : Seen). length s.image.bytes ≡ s.size) same (sized one)
-all_sized see sized (one ∷ items) (suc place) seen at = all_sized see sized items place seen at
-
--- what stands at a place is one thing
-pub one_at : (disks : List Seen) (place : ℕ) (a b : Seen) → slice_get disks place ≡ Some a → slice_get disks place ≡ Some b → a ≡ b
-one_at disks place a b e f = let both : Some a ≡ Some b = sym e ∙ f in cc
-
--- the number of a declared site
-pub numbered : (scenario : Scenario) (n : ℕ) (home : Home) → home_of scenario (record { 0 = n }) ≡ Some home → home.site.0 ≡ n
-numbered scenario n home declared = ap (λ (s : SiteId). s.0) (its-site scenario (record { 0 = n }) home declared)
 
 -- ---- each disk holds what the rules say
 
@@ -128,27 +107,6 @@ stands_hold_frames tells world disks scenario commands told sized rest s (suc n)
 
 -- ---- a call of a disk failed at a command
 
--- what holds of the coordinator's disk wherever the coordinator stands for a past holds of what the failed call left
-pub coord_stops : (K : Terms → OwnPrograms → CoordPast → Type 0) (M : CoordPast → Type 0) (scenario : Scenario) (story : Story) (command : Command) (asked : Request CoordEvent)
-    → ((cut : ℕ) → K (terms_of scenario) (global_program scenario) (stopped_before (terms_of scenario) (coord_past story) cut) → M (stopped_before (terms_of scenario) (coord_past story) cut))
-    → ((event : CoordEvent) (calls cut : ℕ) → K (terms_of scenario) (global_program scenario) (stopped_within (terms_of scenario) (coord_past story) event calls cut)
-    → M (stopped_within (terms_of scenario) (coord_past story) event calls cut))
-    → happens scenario story command ≡ coord_requested scenario story asked
-    → Manager.Fails K Step_err.Disk (terms_of scenario) (global_program scenario) (coord_past story) asked → CoordinatorStops M command scenario story
-coord_stops K M scenario story command (Declines answer) before within e f = absurd f
-coord_stops K M scenario story command (Submits event) before within e (inl f) = record { event = event; happens = e; stop = inl (f.cut, before f.cut f.stood) }
-coord_stops K M scenario story command (Submits event) before within e (inr f) =
-    record { event = event; happens = e; stop = inr (f.calls, f.cut, f.stops, within event f.calls f.cut f.stood) }
-
--- and so of a site's
-pub site_stops : (S : Home → OwnPrograms → SitePast → Type 0) (K : Home → SitePast → Type 0) (scenario : Scenario) (story : Story) (home : Home) (programs : OwnPrograms) (command : Command) (asked : Request SiteEvent) (number : ℕ)
-    → ((event : SiteEvent) (at : StopAt) → S home programs (stopped_past home (past_of home.site story) event at) → K home (stopped_past home (past_of home.site story) event at))
-    → number ≡ home.site.0 → home_of scenario home.site ≡ Some home → happens scenario story command ≡ requested home story asked
-    → Dbms.Fails S Step_err.Disk home programs (past_of home.site story) asked → SiteStops number K command scenario story
-site_stops S K scenario story home programs command (Declines answer) number held n declared e f = absurd f
-site_stops S K scenario story home programs command (Submits event) number held n declared e f =
-    record { home = home; declared = declared; number_is = n; event = event; happens = e; stop = (f.0, held event f.0 f.1, f.2) }
-
 -- the disks as they were behind the commands before the one at which a call failed
 pub record WereBefore {D : Type 0} (see : D → Seen) (number : ℕ) (old new : List Seen) (scenario : Scenario) (story : Story) : Type 0 where
   pub before : List Seen
@@ -165,12 +123,6 @@ were_before see sized number tells world old mid disks scenario whole commands s
   held = stands_hold_all tells b.was b.before scenario (b.done ++ commands) (subst AreSized b.were.are (all_sized see sized b.were.disks)) b.stood;
   rose = b.rose;
 }
-
--- the disk of a number is there
-pub there_at : (disks : List Seen) (number : ℕ) → number < length disks → (seen : Seen) × (slice_get disks number ≡ Some seen)
-there_at [] number lt = absurd (omega arith)
-there_at (seen ∷ disks) zero lt = (seen, refl)
-there_at (seen ∷ disks) (suc number) lt = there_at disks number (omega arith)
 
 -- the coordinator's
 coord_breaks : {D : Type 0} (see : D → Seen) (tells : Bool) (world : World) (old disks : List Seen) (command : Command) (scenario : Scenario) (commands : List Command) → AreSized disks → AreDisks disks scenario

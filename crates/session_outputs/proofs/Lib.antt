@@ -1,13 +1,11 @@
 mod Again
 mod Ending
-pub mod Holding
+mod Holding
 mod NotFound
 mod HostsHeard
-pub mod Kept
 mod MakeLemmas
-pub mod OutputLemmas
+mod OutputLemmas
 mod PlayLemmas
-mod Recalled
 mod Rights
 mod RunLemmas
 mod Stores

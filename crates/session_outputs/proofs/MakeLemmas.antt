@@ -20,15 +20,16 @@ use Rattle.progress_laws.specs.Settled.{CommitsAreSettledAtRest}
 use Rattle.line_text.specs.Spelling.{lines_bytes}
 use Rattle.report_text.specs.Summaries.{summary_text}
 use Rattle.fed_world.proofs.Recalled.{recalls}
-use Rattle.session_outputs.specs.declared.output.Output.{Output}
-use Rattle.session_outputs.specs.declared.output.Output.TheVariants.{Whole, Broken}
+use Rattle.outputs.specs.declared.output.Output.{Output}
+use Rattle.outputs.specs.declared.output.Output.TheVariants.{Whole, Broken}
 use Rattle.session_outputs.specs.declared.making.Making.{Making}
 use Rattle.session_outputs.specs.Ends.{BreaksOff, IsEnded}
 use Rattle.session_outputs.specs.Makes.{IsMakeable, made_scenario, making}
-use Rattle.session_outputs.specs.Outputs.{IfBroken, IfWhole, IsOutput}
+use Rattle.outputs.specs.Outputs.{IfBroken, IfWhole, IsOutput}
 use Rattle.session_outputs.specs.Runs.{Breaks, host_commands, run_commands}
-use Rattle.session_outputs.specs.Texts.{disk_failed_text}
-use Rattle.session_outputs.proofs.Holding.{AreSized, stands_hold_frames}
+use Rattle.outputs.specs.Texts.{disk_failed_text}
+use Rattle.outputs.proofs.Sized.{AreSized}
+use Rattle.session_outputs.proofs.Holding.{stands_hold_frames}
 use Rattle.session_outputs.proofs.HostsHeard.{hosts_unchecked}
 use Rattle.session_outputs.proofs.Rights.{all_commit, story_right}
 use Rattle.session_outputs.proofs.RunLemmas.{Stops, before, off_breaks, stopped_breaks, stopped_lines}

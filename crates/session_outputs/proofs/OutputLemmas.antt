@@ -12,22 +12,17 @@ use Rattle.fed_rules.specs.Right.{AreLines}
 use Rattle.scenario_text.specs.declared.session.Session.{Session}
 use Rattle.line_text.specs.Spelling.{lines_bytes}
 use Rattle.left_disks.specs.Holding.{HoldAll}
-use Rattle.session_outputs.specs.declared.output.Output.{Output}
-use Rattle.session_outputs.specs.declared.output.Output.TheVariants.{Whole, Broken}
+use Rattle.outputs.specs.declared.output.Output.{Output}
+use Rattle.outputs.specs.declared.output.Output.TheVariants.{Whole, Broken}
 use Rattle.session_outputs.specs.Disks.{HoldFrames}
 use Rattle.session_outputs.specs.Outcomes.{AreUnrefused}
-use Rattle.session_outputs.specs.Outputs.{IfBroken, IfWhole, IsOutput}
+use Rattle.outputs.specs.Outputs.{IfBroken, IfWhole, IsOutput}
 use Rattle.session_outputs.specs.Plays.{IsPrinted, closed_with}
 use Rattle.session_outputs.specs.Replays.{Breaks, IsShort, replaying}
 use Rattle.session_outputs.specs.Sessions.{IsFront, IsRight, commands_of, story}
-use Rattle.session_outputs.specs.Texts.{disk_failed_text}
-use Rattle.session_outputs.proofs.Holding.{AreSized, stands_hold_all, were_before, world_breaks}
-
--- what an output says of a whole one follows from more
-pub whole_weaker : (r : Result Output Memory) (P Q : List ℕ → Type 0) → ((bytes : List ℕ) → P bytes → Q bytes) → IfWhole r P → IfWhole r Q
-whole_weaker (Ok (Whole bytes)) P Q f p = f bytes.items p
-whole_weaker (Ok (Broken bytes)) P Q f p = p
-whole_weaker (Err why) P Q f p = p
+use Rattle.outputs.specs.Texts.{disk_failed_text}
+use Rattle.outputs.proofs.Sized.{AreSized}
+use Rattle.session_outputs.proofs.Holding.{stands_hold_all, were_before, world_breaks}
 
 -- the whole output of a session that was carried out
 pub whole_output : {D : Type 0} (see : D → Seen) (r : Result Output Memory) (old new : List Seen) (session : Session) → faults_of new ≡ faults_of old → IsRight session.scenario (story session) → HoldFrames new session.scenario (story session)

@@ -21,17 +21,18 @@ use Rattle.progress_laws.specs.Settled.{CommitsAreSettledAtRest}
 use Rattle.replay_laws.specs.Replayed.{ClosingAddsNothing, CommandsGiveAgain}
 use Rattle.line_text.specs.Fits.{line_fits}
 use Rattle.line_text.specs.Spelling.{lines_bytes}
-use Rattle.session_outputs.specs.declared.output.Output.{Output}
-use Rattle.session_outputs.specs.declared.output.Output.TheVariants.{Whole, Broken}
+use Rattle.outputs.specs.declared.output.Output.{Output}
+use Rattle.outputs.specs.declared.output.Output.TheVariants.{Whole, Broken}
 use Rattle.session_outputs.specs.Ends.{BreaksOff, IsEnded}
-use Rattle.session_outputs.specs.Outputs.{IfBroken, IfWhole, IsOutput}
+use Rattle.outputs.specs.Outputs.{IfBroken, IfWhole, IsOutput}
 use Rattle.session_outputs.specs.Plays.{IsPrintable, IsPrinted}
 use Rattle.session_outputs.specs.Runs.{Breaks, host_commands, run_commands, running}
 use Rattle.session_outputs.specs.Sessions.{IsFront}
-use Rattle.session_outputs.specs.Texts.{disk_failed_text}
+use Rattle.outputs.specs.Texts.{disk_failed_text}
 use Rattle.session_outputs.proofs.Again.{replays_alike}
 use Rattle.session_outputs.proofs.Ending.{run_heard}
-use Rattle.session_outputs.proofs.Holding.{AreSized, stands_hold_frames, starts_broken, were_before, world_breaks}
+use Rattle.outputs.proofs.Sized.{AreSized}
+use Rattle.session_outputs.proofs.Holding.{stands_hold_frames, starts_broken, were_before, world_breaks}
 use Rattle.session_outputs.proofs.HostsHeard.{hosts_heard}
 use Rattle.session_outputs.proofs.OutputLemmas.{front_before}
 use Rattle.session_outputs.proofs.PlayLemmas.{front_heard, lines_fit}

@@ -1,7 +1,5 @@
 -- What is on the disk of an actor's store: the bytes of the rules, of records of the format, and while the actor is up the frames of its records alone.
-use Rattle.std.proofs.Common.{◌≡◌, ℕ, Bool, true, false, IsTrue, Option, Some, List, [], ◌∷◌, ◌++◌, length, map, reverse, refl, sym, ◌∙◌, ap, subst, arith}
-use Rattle.std.proofs.lemmas.List.{append-nil, length-append}
-use Rattle.mdb_base.proofs.JoinLaws.{nothing_left}
+use Rattle.std.proofs.Common.{◌≡◌, ℕ, Bool, true, IsTrue, Option, Some, List, [], ◌∷◌, length, map, reverse, refl, sym, ◌∙◌, ap, subst, arith}
 use Rattle.fed_rules.specs.declared.records.CoordRecord.{CoordRecord}
 use Rattle.fed_rules.specs.declared.records.SiteRecord.{SiteRecord}
 use Rattle.fed_rules.specs.CoordRecords.{coord_frame}
@@ -10,15 +8,12 @@ use Rattle.fed_rules.specs.Happenings.{Trip}
 use Rattle.fed_rules.specs.SiteRecords.{site_frame}
 use Rattle.journal_disk.specs.Disk.{Image, Seen}
 use Rattle.journal_disk.specs.Frames.{Frame, frames}
-use Rattle.frame_journal.specs.Journal.{IsKeptOn}
-use Rattle.frame_journal.specs.Records.{AreRecordsOf, as_written, entry_frame, spelled, spelled_size}
-use Rattle.frame_journal.proofs.Keeping.{length-frames, none_is_part, not_torn}
+use Rattle.frame_journal.specs.Records.{AreRecordsOf, as_written, entry_frame, spelled}
+use Rattle.frame_journal.proofs.Keeping.{none_is_part}
 use Rattle.journal_rules.specs.Stands.{CountsFrames, record_frame}
 use Rattle.journal_rules.proofs.Journals.{all_standing}
 use Rattle.journal_rules.proofs.Keeps.{journal_stands}
-use Rattle.actor_store.specs.declared.store.Standing.{Standing}
-use Rattle.actor_store.specs.declared.store.Standing.TheVariants.{Up, Down, Failing}
-use Rattle.actor_store.specs.Store.{HoldsBytes, IsInOrder, Keeps, Stored, is_up, taken_as}
+use Rattle.actor_store.specs.Store.{HoldsBytes, Keeps, Stored, is_up, taken_as}
 use Rattle.actor_store.proofs.StoreLaws.{sizes, taken_bytes}
 use Rattle.coord_journal.specs.Exact as coord_exact
 use Rattle.coord_journal.specs.Frames as coord_frames
@@ -27,23 +22,7 @@ use Rattle.site_journal.specs.Exact as site_exact
 use Rattle.site_journal.specs.Frames as site_frames
 use Rattle.site_journal.specs.Spelling as of_site
 use Rattle.left_disks.specs.Holding.{HoldsRecords}
-
--- while an actor is up nothing stands behind the frames of its entries
-pub nothing_behind : {R : Type 0} (spelling : R → List ℕ) (tells : Bool) (seen : Seen) (store : Stored R) (rules : Disk R) → IsTrue tells → length seen.image.bytes ≡ seen.size → is_up store.standing ≡ true
-    → IsInOrder store.standing store.journal rules → IsKeptOn spelling tells seen store.journal → seen.image.bytes ≡ spelled (entry_frame spelling) store.journal.entries
-nothing_behind spelling tells seen store rules told sized up order kept =
-    let entries = store.journal.entries in
-    let are = kept.records told in
-    let whole : store.journal.is_torn ≡ false = untorn store.standing up order in
-    let most = not_torn store.journal.is_torn (spelled_size (entry_frame spelling) entries) seen.size kept.is_torn whole in
-    let parts : length seen.image.bytes ≡ length (spelled (entry_frame spelling) entries ++ are.rest) = ap length are.parts in
-    let none : are.rest ≡ [] = nothing_left are.rest (omega (arith, most, parts, sized, length-append (spelled (entry_frame spelling) entries) are.rest, length-frames (map (entry_frame spelling) entries))) in
-    are.parts ∙ ap (λ rest. spelled (entry_frame spelling) entries ++ rest) none ∙ append-nil (spelled (entry_frame spelling) entries)
-  where
-    untorn : (standing : Standing) → is_up standing ≡ true → IsInOrder standing store.journal rules → store.journal.is_torn ≡ false
-    untorn Up e o = o
-    untorn Down e o = absurd cc
-    untorn Failing e o = absurd cc
+use Rattle.outputs.proofs.Stores.{nothing_behind}
 
 module _ {R : Type 0} (spelling : R → List ℕ) (reading : List ℕ → Option R) (is_record : R → Type 0) (frame_bytes : R → ℕ) (counts : CountsFrames spelling frame_bytes) (again : (entry : R) → is_record entry → reading (spelling entry) ≡ Some entry) where
   -- the bytes on a store's disk are those of the rules, and each record is one of the format

@@ -1,14 +1,10 @@
 -- the nine disks, and what a failed call leaves on them
 pub mod Disks
-pub mod Kept
 pub mod Breaks
 -- a session, and what becomes of its commands
 pub mod Sessions
 pub mod Plays
 pub mod Outcomes
--- what is made of an input before anything is put
-pub mod Texts
-pub mod Outputs
 -- the output of each command of the program
 pub mod Replays
 pub mod Again

@@ -13,10 +13,10 @@ use Rattle.made_laws.specs.Summaries.{made_line}
 use Rattle.scenario_maker.specs.Made.{made}
 use Rattle.session_outputs.specs.declared.making.Making.{Making}
 use Rattle.session_outputs.specs.Disks.{HoldFrames}
-use Rattle.session_outputs.specs.Outputs.{Account}
+use Rattle.outputs.specs.Outputs.{Account}
 use Rattle.session_outputs.specs.Runs.{AreOfHosts, Breaks, MayStopShort, host_commands, run_commands}
 use Rattle.session_outputs.specs.Sessions.{AllCommit, IsRight}
-use Rattle.session_outputs.specs.Texts.{disk_failed_text}
+use Rattle.outputs.specs.Texts.{disk_failed_text}
 
 -- a scenario can be made: there are 1 to 8 sites, and 1 to 1,024 transactions
 abbrev pub IsMakeable : Making → Type 0

@@ -10,9 +10,9 @@ use Rattle.line_laws.specs.Printed.{printed}
 use Rattle.line_text.specs.Spelling.{lines_bytes}
 use Rattle.session_outputs.specs.Breaks.{BreaksSetUp}
 use Rattle.session_outputs.specs.Outcomes.{AreUnrefused, BreaksBehind, IsDone, StartsShort, StopsShort}
-use Rattle.session_outputs.specs.Outputs.{Account}
+use Rattle.outputs.specs.Outputs.{Account}
 use Rattle.session_outputs.specs.Sessions.{commands_of, story}
-use Rattle.session_outputs.specs.Texts.{disk_failed_text}
+use Rattle.outputs.specs.Texts.{disk_failed_text}
 
 -- all commands of the session were carried out without a failed disk: the output is their lines, and then the report
 pub record PlaysWhole (output : List ℕ) (old new : List Seen) (session : Session) : Type 0 where

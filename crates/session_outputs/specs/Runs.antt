@@ -17,9 +17,9 @@ use Rattle.line_text.specs.Spelling.{lines_bytes}
 use Rattle.session_outputs.specs.Breaks.{BreaksSetUp}
 use Rattle.session_outputs.specs.Again.{ReplaysAlike}
 use Rattle.session_outputs.specs.Outcomes.{AreUnrefused, BreaksBehind, IsDone}
-use Rattle.session_outputs.specs.Outputs.{Account}
+use Rattle.outputs.specs.Outputs.{Account}
 use Rattle.session_outputs.specs.Sessions.{AllCommit}
-use Rattle.session_outputs.specs.Texts.{disk_failed_text}
+use Rattle.outputs.specs.Texts.{disk_failed_text}
 
 -- these are the lines of the scenario's hosts in threads, by their stamps; the counts are those of the disks' faults before
 pub record AreOfHosts (tells : Bool) (counts : List ℕ) (scenario : Scenario) (merged : List Stamped) : Type 0 where

@@ -14,6 +14,5 @@ mod threaded;
 
 pub use made_output::made_output_of;
 pub use making::Making;
-pub use output::{Output, broken, put_lines};
 pub use replay_output::output_of;
 pub use run_output::run_output_of;

@@ -1,10 +1,10 @@
 //! The output of a run: the lines of its hosts and those that end it, and the report, or the disk that failed.
 ghost use Rattle.std.specs.Prelude.{◌≡◌, false, IsTrue, length, map};
 ghost use Rattle.session_outputs.specs.Disks.{is_used, sizes_of};
-ghost use Rattle.session_outputs.specs.Outputs.{IsOutput};
+ghost use Rattle.outputs.specs.Outputs.{IsOutput};
 ghost use Rattle.session_outputs.specs.Runs.{running};
 
-use crate::output::{Output, broken, printed};
+use crate::output::printed;
 use crate::replay_output::scenario_is_whole;
 use crate::threaded::{Ended, run_to_end};
 use fed_rules::Scenario;
@@ -13,6 +13,7 @@ use federation_run::Gate;
 use journal_disk::Disk;
 use line_laws::{closing_is_heard, conservative_lines_refuse_none, right_lines_fit};
 use mdb_base::Memory;
+use outputs::{Output, broken};
 use progress_laws::{commits_are_settled_at_rest, ends_add_their_own};
 use replay_laws::{closing_adds_nothing, commands_give_again};
 use std::alloc::Global;

@@ -1,6 +1,6 @@
 use Rattle.std.proofs.Common.{◌≡◌, ◌++◌, [], ◌∷◌, length, map, inl, inr, refl, sym, subst, ◌∙◌}
 use Rattle.std.proofs.lemmas.List.{length-map}
-use Rattle.session_outputs.specs.declared.output.Output.{Output}
+use Rattle.outputs.specs.declared.output.Output.{Output}
 use Rattle.fed_rules.specs.Resumed.{going_on, resuming}
 use Rattle.closing.specs.Towards.{BreaksAt, FailsToward, IsShort}
 use Rattle.fed_world.specs.declared.errors.WorldErr.{WorldErr}
@@ -9,10 +9,10 @@ use Rattle.fed_world.specs.Lines.{AreLinesIn}
 use Rattle.fed_world.proofs.Recalled.{recalls}
 use Rattle.found_disks.specs.Finding.{found_in}
 use Rattle.found_disks.specs.Reading.{images_of}
-use Rattle.session_outputs.proofs.Holding.{all_sized}
-use Rattle.session_outputs.proofs.OutputLemmas.{whole_weaker}
+use Rattle.outputs.proofs.Sized.{all_sized}
+use Rattle.outputs.proofs.Outputs.{whole_weaker}
 use Rattle.resume_output.specs.Resumes.{GoesOnFromLeft, IsFoundOn, ResumesAs}
-use Rattle.session_outputs.proofs.Kept.{stands_keeps}
+use Rattle.outputs.proofs.Kept.{stands_keeps}
 use Rattle.resume_output.proofs.Small.{may_close}
 use Rattle.resume_output.proofs.Resumed.{answered_left, as_many_disks, breaks_behind, broken_answered, found_goes_on, if_broken, lines_fit, printed_front, refused_as, refused_left, short_left, stands_behind, whole_answered}
 use Rattle.resume_output.proofs.resuming.resume_output_of.Goals as goal

@@ -13,8 +13,10 @@ use Rattle.closing.specs.FreshTowards.{FailsToward}
 use Rattle.closing.proofs.World.{nine}
 use Rattle.session_outputs.specs.Plays.{closed_with}
 use Rattle.session_outputs.specs.Sessions.{commands_of}
-use Rattle.session_outputs.proofs.Holding.{all_sized, stands_hold_all, stands_hold_frames, starts_broken, starts_short}
-use Rattle.session_outputs.proofs.OutputLemmas.{broken_output, front_before, no_lines, play_breaks, short_output, whole_output, whole_weaker}
+use Rattle.outputs.proofs.Sized.{all_sized}
+use Rattle.session_outputs.proofs.Holding.{stands_hold_all, stands_hold_frames, starts_broken, starts_short}
+use Rattle.session_outputs.proofs.OutputLemmas.{broken_output, front_before, no_lines, play_breaks, short_output, whole_output}
+use Rattle.outputs.proofs.Outputs.{whole_weaker}
 use Rattle.session_outputs.proofs.PlayLemmas.{can_play, front_heard, lines_fit, session_commands, session_heard}
 use Rattle.session_outputs.proofs.Rights.{story_right}
 use Rattle.session_outputs.proofs.Unrefused.{unrefused}

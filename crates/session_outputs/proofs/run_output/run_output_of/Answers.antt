@@ -6,8 +6,8 @@ use Rattle.fed_world.proofs.Recalled.{recalls}
 use Rattle.session_outputs.specs.declared.threaded.Ended.{Ended}
 use Rattle.session_outputs.specs.Ends.{ComesToEnd}
 use Rattle.session_outputs.specs.Runs.{host_commands, run_commands}
-use Rattle.session_outputs.proofs.Holding.{all_sized}
-use Rattle.session_outputs.proofs.OutputLemmas.{whole_weaker}
+use Rattle.outputs.proofs.Sized.{all_sized}
+use Rattle.outputs.proofs.Outputs.{whole_weaker}
 use Rattle.session_outputs.proofs.RunLemmas.{Stops, before, ended_output, ended_printable, failed_output, off_breaks, off_fit, stopped_breaks, stopped_fit, stopped_lines}
 use Rattle.session_outputs.proofs.UsedDisks.{are_empty}
 use Rattle.session_outputs.proofs.run_output.run_output_of.Goals as goal

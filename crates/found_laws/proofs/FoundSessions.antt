@@ -1,4 +1,4 @@
--- A session that goes on from usable disks, whoever left them, begins with the pasts that its journals stand for, and ends at rest.
+-- A session that goes on from usable disks, whoever left them, begins with the pasts that its journals stand for, and each site goes on from one of these.
 use Rattle.std.proofs.Common.{◌≡◌, ℕ, suc, length, ◌≤◌, Bool, true, false, cond, Some, None, List, [], ◌∷◌, ◌++◌, refl, sym, ap, subst, ◌∙◌, inl, inr, arith}
 use Rattle.mdb_base.specs.declared.names.Tx.{Tx}
 use Rattle.mdb_base.specs.Rising.{IsRising}
@@ -17,10 +17,6 @@ use Rattle.rules_laws.specs.Lines.{SiteCause}
 use Rattle.commit_laws.proofs.Links.{IsNext, home-again, linked}
 use Rattle.site_history.specs.Events.{AreSorted, IsSorted}
 use Rattle.site_history.proofs.UsableSites.{sites_go_on}
-use Rattle.resume_laws.proofs.CoordGentle.{NobodyIsOpen, decisions_alone}
-use Rattle.resume_laws.proofs.Settling.{each_here}
-use Rattle.resume_laws.proofs.SiteGentle.{IsDecide}
-use Rattle.resume_laws.proofs.Walk.{begins_nothing, local_never}
 use Rattle.mdb_base.specs.declared.names.SiteId.{SiteId}
 use Rattle.mdb_base.specs.declared.names.Tid.{Tid}
 use Rattle.mdb_base.specs.Names.{same_site}
@@ -33,7 +29,6 @@ use Rattle.order_laws.specs.Chains.{In}
 use Rattle.order_laws.proofs.InLaws.{item_at-in}
 use Rattle.fed_rules.specs.declared.commands.Command.{Command}
 use Rattle.fed_rules.specs.declared.records.SiteRecord.{SiteRecord}
-use Rattle.fed_rules.specs.Closing.{bring_up, closed_in, disarm}
 use Rattle.fed_rules.specs.CoordPast.{is_open}
 use Rattle.fed_rules.specs.Found.{Found, Journal}
 use Rattle.fed_rules.specs.Plans.{AreSites}
@@ -48,20 +43,17 @@ use Rattle.rules_laws.specs.Lines.{IsLine}
 use Rattle.rules_laws.proofs.Lines.{line_is}
 use Rattle.coord_laws.specs.Pasts.{IsOpened}
 use Rattle.commit_laws.proofs.FoundSessions.{CoordinatorFits}
-use Rattle.closing_laws.specs.AtRest.{IsAtRest, StaysUp}
 use Rattle.coord_laws.proofs.UsableCoordinators.{usable_go_on}
-use Rattle.resume_laws.specs.FoundSessions.{AreUsable, BeginsWith, IsOfFormat, RowsRise, UsableSessionsBegin, UsableSessionsGoOn, UsableSessionsRest}
 use Rattle.site_history.specs.FoundSites.{IsFoundSite}
 use Rattle.commit_laws.proofs.Declared.{protocols_rise}
-use Rattle.resume_laws.specs.Gentle.{IsResuming}
-use Rattle.resume_laws.proofs.GoesOn.{idle}
-use Rattle.resume_laws.proofs.Opening.{session_begins}
-use Rattle.resume_laws.proofs.OutcomeWalk.{outcomes_on}
-use Rattle.resume_laws.proofs.PlanSites.{homes_differ, homes_range, rise_all}
-use Rattle.resume_laws.proofs.Readable.{same_home}
-use Rattle.resume_laws.proofs.Rest.{IsLifeless, closed_rests, closed_up}
-use Rattle.resume_laws.proofs.SiteLives.{NobodyLives, lifeless_on}
-use Rattle.resume_laws.proofs.FoundJournals.{AreHomes, all_homes, first_rows_of, none_undeclared, past_declared, rows_alone}
+use Rattle.found_laws.specs.FoundSessions.{AreUsable, BeginsWith, IsOfFormat, RowsRise, UsableSessionsBegin, UsableSessionsGoOn}
+use Rattle.found_laws.specs.Resuming.{IsResuming}
+use Rattle.found_laws.proofs.CoordGentle.{IsDecide, NobodyIsOpen, decisions_alone, each_here}
+use Rattle.found_laws.proofs.FoundJournals.{AreHomes, all_homes, first_rows_of, none_undeclared, past_declared, rows_alone, same_home}
+use Rattle.found_laws.proofs.Idle.{begins_nothing, idle, local_never}
+use Rattle.found_laws.proofs.Opening.{session_begins}
+use Rattle.found_laws.proofs.OutcomeWalk.{outcomes_on}
+use Rattle.found_laws.proofs.PlanSites.{homes_differ, homes_range, rise_all}
 
 -- ---- the session
 
@@ -237,24 +229,6 @@ module _ (found : Found) (u : AreUsable found) where
         is = s.is ∙ ap (λ first. site_past_on home first s.events) ((session_begins session u.coordinator u.is home.site).here ∙ p.past);
       }
 
-  -- ---- it closes
-
-  pub lives_on : (commands : List Command) (home : Home) → home_of (plan_of found) home.site ≡ Some home → NobodyLives home (past_of home.site (story_in session commands))
-  lives_on commands home declared =
-      let r = resumed_from home declared commands in
-      subst (NobodyLives home) (sym r.is) (lifeless_on home r.journal r.events r.resuming)
-
-  lifeless : (commands : List Command) → IsLifeless session (bring_up session (disarm session commands))
-  lifeless commands =
-      let up = bring_up session (disarm session commands) in
-      record { nobody = nobody_on up; lives = lives_on up }
-
-  pub rests : (commands : List Command) → IsAtRest (plan_of found) (story_in session (closed_in session commands))
-  rests commands = closed_rests session fits plan_sites commands (λ site more none. quiet site more none) (lifeless commands)
-
-  pub stays_up : (commands : List Command) → StaysUp session commands
-  stays_up commands = closed_up session fits plan_sites commands (λ site more none. quiet site more none) (lifeless commands)
-
   pub resumes : Each IsOfFormat found.sites → (commands : List Command) (site : SiteId) (home : Home) → home_of (plan_of found) site ≡ Some home
       → IsResumedPast found.sites home (length commands) (past_of home.site (story_in session commands))
   resumes format commands site home declared =
@@ -310,6 +284,3 @@ sessions_go_on_so found usable format commands site home declared =
 
 pub sessions_begin : UsableSessionsBegin
 sessions_begin found usable = begins found usable
-
-pub sessions_rest : UsableSessionsRest
-sessions_rest found usable = rests found usable []

@@ -12,8 +12,8 @@ use Rattle.fed_rules.specs.Reopened.{all_named, first_of, opened_site, owner_nam
 use Rattle.fed_rules.specs.SitePast.{SiteHappening}
 use Rattle.fed_rules.specs.SiteRecords.{Held, Home, doubtful_size, owner_size, site_payload}
 use Rattle.fed_rules.specs.Story.{AtSite, Story, Told, found_site, found_sites, home_found, untold}
-use Rattle.resume_laws.specs.Closed.{FoundLinesAreFew, FoundLinesFit, all_payloads}
-use Rattle.resume_laws.specs.FoundSessions.{AreOfDisks}
+use Rattle.found_laws.specs.FoundLines.{FoundLinesAreFew, FoundLinesFit, all_payloads}
+use Rattle.found_laws.specs.FoundSessions.{AreOfDisks}
 
 -- each attempt that a record names takes 5 bytes or more of its payload
 doubtful_many : (helds : List DoubtfulSum) → 5 * length helds ≤ doubtful_size helds

@@ -11,7 +11,7 @@ use Rattle.fed_rules.specs.declared.records.CoordRecord.{CoordRecord}
 use Rattle.fed_rules.specs.declared.records.SiteRecord.{SiteRecord}
 use Rattle.fed_rules.specs.Found.{Found, Journal}
 use Rattle.fed_rules.specs.Reopened.{first_of, opened_coordinator, opened_site}
-use Rattle.fed_rules.specs.Resumed.{going_on, plan_of, resumed}
+use Rattle.fed_rules.specs.Resumed.{going_on, plan_of}
 use Rattle.fed_rules.specs.Scenarios.{home_of, protocols}
 use Rattle.fed_rules.specs.Site.{site_past_on}
 use Rattle.fed_rules.specs.SitePast.{SitePast}
@@ -19,7 +19,6 @@ use Rattle.fed_rules.specs.SiteRecords.{Home}
 use Rattle.fed_rules.specs.Story.{coord_past, past_of, story_in}
 use Rattle.fed_rules.specs.Usable.{AreUnnamed, IsUsableCoordinator, IsUsableSite, home_of_first}
 use Rattle.site_history.specs.Events.{AreSorted}
-use Rattle.closing_laws.specs.AtRest.{IsAtRest}
 use Rattle.coord_laws.specs.FoundCoordinators.{MembersRise}
 use Rattle.site_history.specs.FoundSites.{IsFoundSite, WritesRise}
 
@@ -45,10 +44,6 @@ pub record BeginsWith (found : Found) (coordinator : Journal CoordRecord) : Type
 
 abbrev pub UsableSessionsBegin : Type 0
 UsableSessionsBegin = (found : Found) → (usable : AreUsable found) → BeginsWith found usable.coordinator
-
--- and at its end every actor is up, no trip is armed, and nothing is live, in doubt or known
-abbrev pub UsableSessionsRest : Type 0
-UsableSessionsRest = (found : Found) → AreUsable found → IsAtRest (plan_of found) (resumed found)
 
 -- the first rows rise by key, as the format has them
 abbrev pub RowsRise : Option Home → Type 0

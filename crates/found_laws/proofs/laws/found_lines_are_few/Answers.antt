@@ -1,5 +1,5 @@
-use Rattle.resume_laws.proofs.FoundLines.{lines_are_few, lines_fit}
-use Rattle.resume_laws.proofs.closed.found_lines_are_few.Goals as goal
+use Rattle.found_laws.proofs.FoundLines.{lines_are_few, lines_fit}
+use Rattle.found_laws.proofs.laws.found_lines_are_few.Goals as goal
 
 pub returns-clause-few : goal.returns-clause-few
 returns-clause-few c = lines_are_few

@@ -15,8 +15,8 @@ use Rattle.coord_laws.proofs.Sound.{CoordSound}
 use Rattle.coord_laws.proofs.Turns.{Turn, same_outcome}
 use Rattle.commit_laws.proofs.FoundSessions.{CoordinatorFits, session_sound}
 use Rattle.commit_laws.proofs.Links.{IsNext, linked, numbered}
-use Rattle.resume_laws.proofs.CoordGentle.{NobodyIsOpen, closed_standing, still_nobody}
-use Rattle.resume_laws.proofs.Walk.{IsIdle, begins_nothing}
+use Rattle.found_laws.proofs.CoordGentle.{NobodyIsOpen, closed_standing, still_nobody}
+use Rattle.found_laws.proofs.Idle.{IsIdle, begins_nothing}
 
 pub record Stays (g : Tid) (first now : CoordPast) : Type 0 where
   pub nobody : NobodyIsOpen now

@@ -1,15 +1,14 @@
--- What a session finds on its disks: the made-up lines send nothing and settle nothing, so the invariant holds before its first command.
-use Rattle.std.proofs.Common.{◌≡◌, ℕ, zero, suc, ◌+◌, ◌-◌, ◌⊎◌, inl, inr, Bool, true, false, cond, Option, Some, None, List, [], ◌∷◌, ◌++◌, map, refl, sym, ap, subst, ◌∙◌}
+-- What a session finds on its disks: it begins with the pasts that the journals stand for, and the made-up lines send nothing and settle nothing.
+use Rattle.std.proofs.Common.{◌≡◌, ℕ, zero, suc, ◌+◌, ◌-◌, inl, inr, Bool, true, false, cond, Option, Some, None, List, [], ◌∷◌, ◌++◌, map, refl, sym, ap, ◌∙◌}
 use Rattle.mdb_base.specs.declared.names.SiteId.{SiteId}
 use Rattle.mdb_base.specs.declared.names.Tid.{Tid}
 use Rattle.mdb_base.specs.declared.names.Tx.{Tx}
 use Rattle.mdb_base.specs.Names.{same_site}
-use Rattle.mdb_base.specs.Words.{Each, Among, those}
+use Rattle.mdb_base.specs.Words.{Each, those}
 use Rattle.mdb_base.proofs.JoinLaws.{append_nil}
 use Rattle.mdb_base.proofs.ListLaws.{append_each}
 use Rattle.presumptions.specs.declared.Decision.{Decision}
 use Rattle.presumptions.specs.declared.Participant.{Participant}
-use Rattle.presumptions.specs.Table.{presumed}
 use Rattle.fed_rules.specs.declared.answers.Answer.{Answer}
 use Rattle.fed_rules.specs.declared.answers.Answer.TheVariants as Say
 use Rattle.fed_rules.specs.declared.messages.FromSite.{FromSite}
@@ -19,8 +18,8 @@ use Rattle.fed_rules.specs.declared.records.CoordRecord.{CoordRecord}
 use Rattle.fed_rules.specs.declared.records.SiteRecord.{SiteRecord}
 use Rattle.fed_rules.specs.declared.records.SiteRecord.TheVariants.{Setup, Start, Prepared, Ended, Local, Checkpoint}
 use Rattle.fed_rules.specs.CoordPast as Coordinator
-use Rattle.fed_rules.specs.CoordPast.{CoordPast, Gone, attempts_of, standing, standing_of}
-use Rattle.fed_rules.specs.CoordRecords.{coord_frame, is_kept, outcome, recorded, required}
+use Rattle.fed_rules.specs.CoordPast.{CoordPast, attempts_of}
+use Rattle.fed_rules.specs.CoordRecords.{coord_frame, recorded}
 use Rattle.fed_rules.specs.Disk.{after_calls, empty_disk}
 use Rattle.fed_rules.specs.Endings.{Settles}
 use Rattle.fed_rules.specs.Found.{Journal}
@@ -28,12 +27,10 @@ use Rattle.fed_rules.specs.Happenings.{Happening}
 use Rattle.fed_rules.specs.Reopened.{all_gone, all_heard, all_named, coord_opening, coord_read, first_of, go_on, heard_of, opened_coordinator, opened_site, owner_named, site_names, was_global, was_local}
 use Rattle.fed_rules.specs.Scenarios.{protocols}
 use Rattle.fed_rules.specs.Sessions.{Session}
-use Rattle.fed_rules.specs.SitePast.{SitePast, records}
-use Rattle.fed_rules.specs.SiteRecords.{Held, Home, doubt_of}
+use Rattle.fed_rules.specs.SitePast.{SitePast}
+use Rattle.fed_rules.specs.SiteRecords.{Held, Home}
 use Rattle.fed_rules.specs.Story.{AtCoordinator, AtSite, Story, coord_past, found_coordinator, found_site, found_sites, home_found, past_of, sent_from, sent_to, story_in, untold}
 use Rattle.commit_laws.proofs.FoundSessions.{of_coordinator, of_sites as no_coordinator}
-use Rattle.resume_laws.proofs.Settling.{IsRight, Resumes}
-use Rattle.resume_laws.proofs.Walk.{ResumesIn}
 
 is_settling : Answer → Bool
 is_settling (Say.Settles tid decision) = true
@@ -91,6 +88,9 @@ unfolding is_settling
 unsettled [] g d h i = i
 unsettled (x ∷ past) g d h (inl e) = let clash : true ≡ false = sym (ap is_settling e) ∙ h.0.settles in cc
 unsettled (x ∷ past) g d h (inr i) = unsettled past g d h.1 i
+
+pub site_unsettled : (journal : Journal SiteRecord) (g : Tid) (d : Decision) → Settles (opened_site journal) g d → ⊥
+site_unsettled journal g d i = unsettled (opened_site journal) g d (site_silent journal) i
 
 -- ---- the coordinator
 
@@ -202,72 +202,3 @@ session_begins session journal is site = record {
 
     rest : (sent_to site (found_sites session.found.sites) ≡ []) × (sent_from site (found_sites session.found.sites) ≡ [])
     rest = of_sites site session.found.sites
-
--- ---- the invariant
-
--- a site in doubt presumes the outcome, or the records keep the attempt and require its acknowledgement
-pub record IsFoundRight (members : List Participant) (rs : List CoordRecord) (home : Home) (g : Tid) (here : SitePast) : Type 0 where
-  pub right : (held : Held) → doubt_of (records home here) g ≡ Some held → (presumed home.protocol ≡ outcome rs g)
-      ⊎ ((is_kept members rs g ≡ true) × Among (λ m. (m.site ≡ home.site) × (m.protocol ≡ home.protocol)) (required members rs g (outcome rs g)))
-
-module _ (members : List Participant) (journal : Journal CoordRecord) (home : Home) (g : Tid) (found : Journal SiteRecord)
-    (fit : IsFoundRight members (coord_read journal) home g (opened_site found)) where
-  abbrev past : CoordPast
-  past = opened_coordinator members journal
-
-  abbrev here : SitePast
-  here = opened_site found
-
-  abbrev verdict : Decision
-  verdict = outcome (coord_read journal) g
-
-  by_doubt : {A : Type 0} → (doubt_of (records home here) g ≡ None → A) → ((held : Held) → doubt_of (records home here) g ≡ Some held → A) → A
-  by_doubt {A} none some = split (doubt_of (records home here) g) refl
-    where
-      split : (o : Option Held) → doubt_of (records home here) g ≡ o → A
-      split None e = none e
-      split (Some held) e = some held e
-
-  unkept : is_kept members (Coordinator.records past) g ≡ false → IsRight home g verdict here
-  unkept e = by_doubt inl (λ held doubt. elim (fit.right held doubt) [
-    | inl right ↦ inr right
-    | inr (kept, awaited) ↦ let clash : true ≡ false = sym kept ∙ (ap (λ rs. is_kept members rs g) (sym (coord_records members journal)) ∙ e) in cc
-  ])
-
-  gone : standing members past g ≡ Gone → IsRight home g verdict here
-  gone e = by_test (is_kept members (Coordinator.records past) g) refl e
-    where
-      by_test : (b : Bool) → is_kept members (Coordinator.records past) g ≡ b → standing_of false (cond b (Some (outcome (Coordinator.records past) g)) None) ≡ Gone
-          → IsRight home g verdict here
-      by_test true q e = cc
-      by_test false q e = unkept q
-
-  first_resumes : Resumes members home g verdict past here [] []
-  first_resumes = record {
-    untripped = refl;
-    nobody = λ tid. refl;
-    outcome = ap (λ rs. outcome rs g) (coord_records members journal);
-    decides = λ m i. absurd i;
-    told = λ d i. absurd i;
-    acked = λ i. absurd i;
-    heard = λ e. cc;
-    awaited = by_doubt (λ none. inl (inl none)) (λ held doubt. elim (fit.right held doubt) [
-      | inl right ↦ inl (inr right)
-      | inr (kept, awaited) ↦ inr (subst (λ rs. Among (λ m. (m.site ≡ home.site) × (m.protocol ≡ home.protocol)) (required members rs g verdict)) (sym (coord_records members journal)) awaited)
-    ]);
-    unkept = unkept;
-    gone = gone;
-    settled = λ d i. absurd (unsettled here g d (site_silent found) i);
-  }
-
--- so it holds before the first command
-pub opens_right : (session : Session) (journal : Journal CoordRecord) → session.found.coordinator ≡ Some journal → (home : Home) (g : Tid) (found : Journal SiteRecord)
-    → past_of home.site (found_sites session.found.sites) ≡ opened_site found → IsFoundRight (protocols session.plan) (coord_read journal) home g (opened_site found)
-    → ResumesIn session.plan home g (outcome (coord_read journal) g) (story_in session [])
-opens_right session journal is home g found at fit =
-    let b = session_begins session journal is home.site in
-    subst (λ past. Resumes (protocols session.plan) home g (outcome (coord_read journal) g) past (past_of home.site (story_in session [])) (sent_to home.site (story_in session [])) (sent_from home.site (story_in session []))) (sym b.coordinator)
-    (subst (λ here. Resumes (protocols session.plan) home g (outcome (coord_read journal) g) (opened_coordinator (protocols session.plan) journal) here (sent_to home.site (story_in session [])) (sent_from home.site (story_in session []))) (sym (b.here ∙ at))
-    (subst (λ sent. Resumes (protocols session.plan) home g (outcome (coord_read journal) g) (opened_coordinator (protocols session.plan) journal) (opened_site found) sent (sent_from home.site (story_in session []))) (sym b.to)
-    (subst (λ back. Resumes (protocols session.plan) home g (outcome (coord_read journal) g) (opened_coordinator (protocols session.plan) journal) (opened_site found) [] back) (sym b.from)
-    (first_resumes (protocols session.plan) journal home g found fit))))

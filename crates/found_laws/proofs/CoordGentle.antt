@@ -1,9 +1,11 @@
 -- What a line of the coordinator sends where nobody is undecided and nothing begins: decisions alone; and then nobody is undecided behind it.
-use Rattle.std.proofs.Common.{◌≡◌, ℕ, ◌&&◌, Bool, true, false, Option, Some, None, List, [], ◌∷◌, refl, sym, ap, subst, ◌∙◌, inl, inr}
+use Rattle.std.proofs.Common.{◌≡◌, ℕ, ◌&&◌, Bool, true, false, cond, Option, Some, None, List, [], ◌∷◌, map, refl, sym, ap, subst, ◌∙◌, inl, inr}
 use Rattle.mdb_base.specs.declared.names.SiteId.{SiteId}
 use Rattle.mdb_base.specs.declared.names.Tid.{Tid}
 use Rattle.mdb_base.specs.declared.replies.Reply.{Reply}
-use Rattle.mdb_base.specs.Words.{Each, when, pick}
+use Rattle.mdb_base.specs.Names.{same_site}
+use Rattle.mdb_base.specs.Words.{Each, when, pick, those}
+use Rattle.order_laws.specs.Chains.{In}
 use Rattle.order_laws.proofs.Lists.{bool_is}
 use Rattle.presumptions.specs.declared.Decision.{Decision}
 use Rattle.presumptions.specs.declared.Participant.{Participant}
@@ -13,6 +15,8 @@ use Rattle.fed_rules.specs.declared.events.CoordEvent.{CoordEvent}
 use Rattle.fed_rules.specs.declared.events.CoordEvent.TheVariants as Ev
 use Rattle.fed_rules.specs.declared.messages.FromSite.TheVariants as From
 use Rattle.fed_rules.specs.declared.messages.Sent.{Sent}
+use Rattle.fed_rules.specs.declared.messages.ToSite.{ToSite}
+use Rattle.fed_rules.specs.declared.messages.ToSite.TheVariants as To
 use Rattle.fed_rules.specs.Coord.{ack_counts, acked_while, again_while, answered, asked_while, coord_line, decide_to, did_counts, fits, of_ack, of_again, of_back, of_check, of_did, of_fate, of_inquiry, of_late, of_take, of_vote, vote_counts, is_due_vote}
 use Rattle.fed_rules.specs.CoordPast.{CoordHappening, CoordPast, Standing, Undecided, Decided, Gone, begins, disk, is_open, known_decision, outstanding, standing, standing_of, trip}
 use Rattle.fed_rules.specs.CoordRecords.{coord_frame}
@@ -22,7 +26,12 @@ use Rattle.rules_laws.proofs.CoordPasts.{BeginsNothing}
 use Rattle.coord_laws.proofs.Facts.{IsOpen, is_undecided}
 use Rattle.coord_laws.proofs.Made.{Begins, IsMade}
 use Rattle.coord_laws.proofs.Standings.{undecided_from}
-use Rattle.resume_laws.proofs.SiteGentle.{IsDecide}
+use Rattle.commit_laws.proofs.AgreeCoord.{to_site}
+
+-- a decision
+abbrev pub IsDecide : ToSite → Type 0
+IsDecide (To.Decide tid decision) = Unit {0}
+IsDecide message = ⊥
 
 -- each message is a decision
 abbrev pub AreDecisions : List Sent → Type 0
@@ -141,6 +150,17 @@ module _ (protocols : List Participant) (policy : Policy) (past : CoordPast) (cl
   decisions_alone (Ev.Trip calls cut) i = tt
   decisions_alone Ev.Back i = sends_when _ _ _ (λ e. tripped_sends (trip past) (of_back protocols past) tt) (λ e. tt)
   decisions_alone Ev.Check i = while_up Ev.Check tt
+
+-- so is each one that reaches a site
+pub each_here : (site : SiteId) (sends : List Sent) (m : ToSite) → AreDecisions sends → In m (to_site site sends) → IsDecide m
+each_here site [] m each i = absurd i
+each_here site (s ∷ sends) m each i = by_test (same_site s.site site) i (each_here site sends m each.1)
+  where
+    by_test : (b : Bool) → In m (map (λ k. k.message) (cond b (s ∷ those (λ k. same_site k.site site) sends) (those (λ k. same_site k.site site) sends)))
+        → (In m (to_site site sends) → IsDecide m) → IsDecide m
+    by_test true (inl e) k = subst IsDecide e each.0
+    by_test true (inr j) k = k j
+    by_test false j k = k j
 
 no_begin : (event : CoordEvent) (tid : Tid) (answer : Answer) → Begins event answer → BeginsNothing event → begins tid answer ≡ true → ⊥
 no_begin event tid (Say.Begun t) b i e = subst BeginsNothing b.1 i

@@ -1,6 +1,6 @@
 use Rattle.std.proofs.Common.{◌≡◌, ◌++◌, take}
 use Rattle.line_text.specs.Spelling.{lines_bytes}
-use Rattle.session_outputs.proofs.output.put_lines.Given as goal
+use Rattle.outputs.proofs.output.put_lines.Given as goal
 
 -- what was written so far stands at the end
 abbrev pub invariant-loop-line : goal.invariant-loop-line

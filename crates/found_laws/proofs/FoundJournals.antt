@@ -28,12 +28,15 @@ use Rattle.fed_rules.specs.Usable.{IsOfSite, IsUsableSite, home_of_first}
 use Rattle.rules_laws.proofs.Scenarios.{MembersRise}
 use Rattle.commit_laws.proofs.Links.{member_of}
 use Rattle.commit_laws.proofs.Declared.{rising_from, rising_on, rising_over}
-use Rattle.resume_laws.specs.FoundSessions.{AreOfDisks}
-use Rattle.resume_laws.proofs.FoundHomes.{append_none, skipped, taken, told_here, told_there}
-use Rattle.resume_laws.proofs.PlanSites.{IsInRange}
-use Rattle.resume_laws.proofs.Readable.{same_home}
+use Rattle.found_laws.specs.FoundSessions.{AreOfDisks}
+use Rattle.found_laws.proofs.FoundHomes.{append_none, skipped, taken, told_here, told_there}
+use Rattle.found_laws.proofs.PlanSites.{IsInRange}
 
 -- ---- the homes of the journals
+
+pub same_home : (o : Option SiteRecord) → home_found o ≡ home_of_first o
+same_home None = refl
+same_home (Some first) = refl
 
 record IsHomeOf (number : ℕ) (journal : Journal SiteRecord) : Type 0 where
   home : Home

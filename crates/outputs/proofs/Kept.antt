@@ -37,11 +37,12 @@ use Rattle.fed_world.specs.declared.world.World.{World}
 use Rattle.fed_world.specs.Beginnings.{GoesOn, IsBlank, programs_at}
 use Rattle.fed_world.specs.Seats.{OfDbms, SitesAt}
 use Rattle.fed_world.specs.Worlds.{ActorBroke, AreDisks, CoordinatorBroke, DbmsStands, ManagerStands, SiteBroke, Stands, StandsBut}
-use Rattle.session_outputs.specs.Breaks.{ActorStops}
-use Rattle.session_outputs.specs.Kept.{CoordKeeps, KeepAll, KeepOthers, KeepsAt, KeepsRecords, SiteKeeps}
-use Rattle.session_outputs.proofs.Holding.{AreSized, coord_stops, numbered, one_at, site_stops, there_at}
-use Rattle.session_outputs.proofs.Recalled.{site_held}
-use Rattle.session_outputs.proofs.Stores.{nothing_behind}
+use Rattle.outputs.specs.Stops.{ActorStops}
+use Rattle.outputs.specs.Kept.{CoordKeeps, KeepAll, KeepOthers, KeepsAt, KeepsRecords, SiteKeeps}
+use Rattle.outputs.proofs.Sized.{AreSized, numbered, one_at, there_at}
+use Rattle.outputs.proofs.Stops.{coord_stops, site_stops}
+use Rattle.outputs.proofs.Recalled.{site_held}
+use Rattle.outputs.proofs.Stores.{nothing_behind}
 
 -- the disk of an actor's store has the records of its journal
 keeps_records : {R : Type 0} (spelling : R → List ℕ) (is_record : R → Type 0) (frame_bytes : R → ℕ) (tells : Bool) (seen : Seen) (store : Stored R) (rules : Disk R) (trip : Option Trip) (found down : Bool) → IsTrue tells

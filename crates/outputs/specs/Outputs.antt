@@ -2,8 +2,8 @@
 use Rattle.std.specs.Prelude.{ℕ, List, Result, Ok, Err}
 use Rattle.mdb_base.specs.declared.names.Memory.{Memory}
 use Rattle.journal_disk.specs.Disk.{Seen}
-use Rattle.session_outputs.specs.declared.output.Output.{Output}
-use Rattle.session_outputs.specs.declared.output.Output.TheVariants.{Whole, Broken}
+use Rattle.outputs.specs.declared.output.Output.{Output}
+use Rattle.outputs.specs.declared.output.Output.TheVariants.{Whole, Broken}
 
 -- an output is a whole one of which the fact holds
 abbrev pub IfWhole : Result Output Memory → (List ℕ → Type 0) → Type 0

@@ -1,0 +1,4 @@
+pub mod FoundLines
+pub mod FoundSessions
+pub mod Ranges
+pub mod Resuming
