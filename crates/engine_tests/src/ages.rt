@@ -4,13 +4,13 @@ ghost use Rattle.std.specs.Prelude.{◌≡◌};
 use access_ages::{AccessAges, KeyAges, TicketAges};
 use fed_rules::Kept;
 use mdb_base::{Key, PlainAct, Put, Puts, Reply, Tid, Tx, Why};
-use run_book::{Granted, HeldRun, Marks, Rival};
+use run_book::{Counters, Granted, HeldRun, Rival};
 use std::slice;
 use std::test::Fail;
 
 const KEY: Key = Key(5);
 
-const MARKS: Marks = Marks {
+const COUNTERS: Counters = Counters {
     counter: 0,
     published: 0,
     owner: None,
@@ -35,7 +35,7 @@ fn a_writer_that_commits_is_the_last_one(rt: HostRuntime) -> Result<(), Fail> {
     ages.read(KEY, aged(1));
     ages.make_room(KEY)?;
     ages.write(KEY, aged(2));
-    let mut run = HeldRun::begun(alloc, aged(2).tid, 2, MARKS);
+    let mut run = HeldRun::begun(alloc, aged(2).tid, 2, COUNTERS);
     run.grant(Granted::write(KEY, 7))?;
     ages.commit(&run);
     let left = KeyAges {
@@ -52,7 +52,7 @@ fn a_writer_that_commits_is_the_last_one(rt: HostRuntime) -> Result<(), Fail> {
 fn an_aborted_run_counts_for_its_reads_alone(rt: HostRuntime) -> Result<(), Fail> {
     let alloc = rt.alloc();
     let mut ages = AccessAges::new(alloc);
-    let mut run = HeldRun::begun(alloc, aged(2).tid, 2, MARKS);
+    let mut run = HeldRun::begun(alloc, aged(2).tid, 2, COUNTERS);
     ages.make_room(KEY)?;
     ages.read(KEY, aged(2));
     run.grant(Granted::read(KEY, 0))?;

@@ -14,7 +14,7 @@ use engine_contract::LocalEngine;
 use locking_engine::LockingEngine;
 use mdb_base::{Key, PlainAct, Put, Puts, Tid, Tx};
 use multiversion_engine::MultiversionEngine;
-use run_book::Marks;
+use run_book::Counters;
 use std::alloc::Global;
 use std::process::Abort;
 use std::test::Fail;
@@ -156,12 +156,12 @@ fn restart<E: LocalEngine>(
 {
     let rows = watched.rows(alloc)?;
     let doubtful = site.stop(alloc)?;
-    let marks = Marks {
+    let counters = Counters {
         counter: site.counter,
         published: site.published,
         owner: site.owner,
     };
-    watched.restart(rt, alloc, &rows, doubtful.as_slice(), marks)?;
+    watched.restart(rt, alloc, &rows, doubtful.as_slice(), counters)?;
     site.start(alloc, doubtful)?;
     Ok(())
 }

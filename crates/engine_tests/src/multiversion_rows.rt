@@ -4,7 +4,7 @@ use crate::rows::{
     FIRST, KEY, Prepared, Row, SECOND, Stopped, THIRD, few_rows, play_on, play_over_stop, read_once,
 };
 use mdb_base::{Put, Reply, Why};
-use run_book::Marks;
+use run_book::Counters;
 use std::alloc::Global;
 use std::process::Abort;
 use std::test::Fail;
@@ -137,7 +137,7 @@ fn a_restart_restores_what_was_prepared(rt: HostRuntime) -> Result<(), Fail> {
             ticket: 2,
             value: 9,
         }),
-        marks: Marks {
+        counters: Counters {
             counter: 7,
             published: 4,
             owner: None,

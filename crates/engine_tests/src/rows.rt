@@ -7,7 +7,7 @@ use crate::call::{Answer, Call};
 use crate::watched::Watched;
 use engine_contract::{Kept, LocalEngine, read_alone};
 use mdb_base::{Key, Memory, PlainAct, Put, Puts, Reply, Tid, Tx, Why};
-use run_book::Marks;
+use run_book::Counters;
 use std::alloc::Global;
 use std::process::Abort;
 use std::test::Fail;
@@ -164,12 +164,12 @@ pub fn play_on<E: LocalEngine>(
     Ok(())
 }
 
-/// A stop: the calls before it, who is in doubt, the marks of the start, the calls behind it, and the rows that they leave.
+/// A stop: the calls before it, who is in doubt, the counters of the start, the calls behind it, and the rows that they leave.
 #[derive(Clone, Copy)]
 pub struct Stopped<'a> {
     pub before: &'a [Row],
     pub prepared: Option<Prepared>,
-    pub marks: Marks,
+    pub counters: Counters,
     pub behind: &'a [Row],
     pub left: &'a [Put],
 }
@@ -187,7 +187,7 @@ pub fn play_over_stop<E: LocalEngine>(
     play(rt, alloc, &mut watched, stopped.before)?;
     let rows = few_rows(alloc, None)?;
     let doubtful = in_doubt(alloc, stopped.prepared)?;
-    watched.restart(rt, alloc, &rows, doubtful.as_slice(), stopped.marks)?;
+    watched.restart(rt, alloc, &rows, doubtful.as_slice(), stopped.counters)?;
     play(rt, alloc, &mut watched, stopped.behind)?;
     assert_eq!(rt; watched.rows(alloc)?.as_slice(), stopped.left);
     Ok(())

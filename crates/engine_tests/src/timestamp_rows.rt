@@ -5,7 +5,7 @@ use crate::rows::{
     play_over_stop, read_once,
 };
 use mdb_base::{Key, Memory, Put, Reply, Tid, Tx, Why};
-use run_book::Marks;
+use run_book::Counters;
 use std::alloc::Global;
 use std::process::Abort;
 use std::test::Fail;
@@ -126,7 +126,7 @@ fn an_aborted_reader_counts_until_the_restart(rt: HostRuntime) -> Result<(), Fai
     let stopped = Stopped {
         before: &ABORTED_READER,
         prepared: None,
-        marks: Marks {
+        counters: Counters {
             counter: 0,
             published: 0,
             owner: None,
@@ -196,7 +196,7 @@ fn a_restart_restores_what_was_prepared(rt: HostRuntime) -> Result<(), Fail> {
             ticket: 2,
             value: 9,
         }),
-        marks: Marks {
+        counters: Counters {
             counter: 7,
             published: 4,
             owner: None,

@@ -5,7 +5,7 @@ use crate::rows::{
     play_over_stop, read_once,
 };
 use mdb_base::{Key, Put, Reply, Why};
-use run_book::Marks;
+use run_book::Counters;
 use std::alloc::Global;
 use std::process::Abort;
 use std::test::Fail;
@@ -226,7 +226,7 @@ fn a_restart_restores_what_was_prepared(rt: HostRuntime) -> Result<(), Fail> {
             ticket: 2,
             value: 9,
         }),
-        marks: Marks {
+        counters: Counters {
             counter: 7,
             published: 2,
             owner: Some(THIRD),

@@ -10,7 +10,7 @@ use crate::may_start::may_start;
 use crate::stage::{Note, Stage};
 use engine_contract::{Kept, LocalEngine, SealErr, Sealed, begin_again, seal_again};
 use mdb_base::{Memory, PlainAct, Puts, Reply, Tid};
-use run_book::Marks;
+use run_book::Counters;
 use std::alloc::Global;
 use std::process::Abort;
 use std::test::Fail;
@@ -298,17 +298,17 @@ impl<E: LocalEngine> Watched<E> {
         alloc: Global,
         rows: &Puts,
         doubtful: &[Kept],
-        marks: Marks,
+        counters: Counters,
     ) -> Result<(), Fail>
         requires { SomePast E.stands self.old.engine (Agrees self.old.notes.items self.old.counter self.old.published) }
         ensures { OnOk result (SomePast E.stands self.new.engine
             (Agrees self.new.notes.items self.new.counter self.new.published)) }
     {
-        let Marks {
+        let Counters {
             counter,
             published,
             owner,
-        } = marks;
+        } = counters;
         assert!(rt; may_start(doubtful, counter, published));
         self.engine
             .restart(alloc, rows, doubtful, counter, published, owner)?;

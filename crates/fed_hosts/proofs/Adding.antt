@@ -11,7 +11,7 @@ use Rattle.fed_rules.specs.Story.{place_from}
 use Rattle.fed_messages.specs.declared.Envelope.{Envelope}
 use Rattle.fed_messages.specs.declared.Packet.{Packet}
 use Rattle.fed_hosts.specs.declared.site_actor.SiteActor.{SiteActor}
-use Rattle.fed_hosts.specs.declared.site_actor.Told.{Told}
+use Rattle.fed_hosts.specs.declared.site_actor.LineParts.{LineParts}
 use Rattle.fed_hosts.specs.Carrying.{IsTold, turn_of}
 use Rattle.host_laws.specs.History.{IsNext}
 use Rattle.fed_hosts.specs.Keeps.{IsLogged, most_begun}
@@ -21,7 +21,7 @@ use Rattle.fed_hosts.specs.Rooms.{HasAdded}
 use Rattle.host_laws.specs.Turns.{SiteTurn, begun_in, is_due, is_trip, last_stamp, past_of, sends_at, sent_by, trips_of}
 use Rattle.fed_hosts.proofs.Words.{max_below}
 
-module _ {E D : Type 0} (plan : SitePlan) (turns : List SiteTurn) (told : Told) (took : Option (Envelope ToSite)) (old new : SiteActor E D)
+module _ {E D : Type 0} (plan : SitePlan) (turns : List SiteTurn) (told : LineParts) (took : Option (Envelope ToSite)) (old new : SiteActor E D)
     (logged : IsLogged plan turns old) (is : IsTold plan turns told took) (site : old.ends.site ≡ plan.home.site) (arms : is_trip told.command ≡ is_due plan turns)
     (less : length turns < most_lines) (added : HasAdded old new told) where
   turn : SiteTurn

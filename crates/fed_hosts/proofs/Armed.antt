@@ -19,7 +19,7 @@ use Rattle.local_dbms.specs.Stands.{Serves, Stands}
 use Rattle.scripted_link.specs.declared.outlet.Outlet.{Outlet}
 use Rattle.scripted_link.specs.Outlets.{offered}
 use Rattle.fed_hosts.specs.declared.site_actor.SiteActor.{SiteActor}
-use Rattle.fed_hosts.specs.declared.site_actor.Told.{Told}
+use Rattle.fed_hosts.specs.declared.site_actor.LineParts.{LineParts}
 use Rattle.fed_hosts.specs.Carrying.{HasArmed, IsTold, turn_of}
 use Rattle.fed_hosts.specs.Keeps.{IsLogged, IsStop}
 use Rattle.host_laws.specs.Plans.{SitePlan, most_lines}
@@ -39,7 +39,7 @@ unarmed_set plan turns set is e less = one_set plan turns (sym is ∙ e)
 
 module _ {E : Type 0} (stands : E → Start → List EngineLine → Type 0) (tells : Bool) (seen : Seen) (plan : SitePlan) (turns : List SiteTurn) where
   -- the line that arms a stop is told as the rules say
-  trip_told : (stop : StopLine) (told : Told) (dbms : LocalDbms E) → slice_get plan.stops (trips_of turns) ≡ Some stop
+  trip_told : (stop : StopLine) (told : LineParts) (dbms : LocalDbms E) → slice_get plan.stops (trips_of turns) ≡ Some stop
       → Serves (Stands stands tells dbms seen) told.answer plan.home plan.programs (past_of plan turns) (Submits (Ev.Trip stop.calls stop.cut))
       → IsTold plan turns (record told { command = Cmd.Trip stop.actor stop.calls stop.cut; send = None; after = 0 }) None
   trip_told stop told dbms at serves =
@@ -80,7 +80,7 @@ module _ {E D : Type 0} (stands : E → Start → List EngineLine → Type 0) (t
       none_left plan turns (omega (arith, stops, armed, all))
 
   -- the line that arms a stop
-  pub arms : (old new : SiteActor E D) (stop : StopLine) (told : Told) → IsLogged plan turns old → 1 ≤ length turns → Each (IsStop plan.home.site.0) plan.stops → old.ends.site ≡ plan.home.site
+  pub arms : (old new : SiteActor E D) (stop : StopLine) (told : LineParts) → IsLogged plan turns old → 1 ≤ length turns → Each (IsStop plan.home.site.0) plan.stops → old.ends.site ≡ plan.home.site
       → length turns < most_lines → old.armed < length old.stops.items → slice_get old.stops.items old.armed ≡ Some stop → is_some (trip (past_of plan turns)) ≡ false
       → told ≡ record told { command = Cmd.Trip stop.actor stop.calls stop.cut; send = None; after = 0 }
       → Serves (Stands stands tells new.dbms seen) told.answer plan.home plan.programs (past_of plan turns) (Submits (Ev.Trip stop.calls stop.cut))
@@ -91,7 +91,7 @@ module _ {E D : Type 0} (stands : E → Start → List EngineLine → Type 0) (t
       let trip_is' = trip_told stands tells seen plan turns stop told new.dbms at' serves in
       let due = one_due plan turns some unset left' in
       let told' = record told { command = Cmd.Trip stop.actor stop.calls stop.cut; send = None; after = 0 } in
-      let added' : HasAdded old new told' = subst (λ (t : Told). HasAdded old new t) is added in
+      let added' : HasAdded old new told' = subst (λ (t : LineParts). HasAdded old new t) is added in
       let turn = turn_of old told' None in
       let one = each_at_place (IsStop plan.home.site.0) plan.stops (trips_of turns) stop stops at' in
       record {

@@ -22,7 +22,7 @@ use Rattle.local_dbms.specs.Asks.{CanAsk, site_request}
 use Rattle.local_dbms.specs.Stands.{IsShort, OwnPrograms, Serves, Tells}
 use Rattle.local_dbms.proofs.Bounds.{made_small}
 use Rattle.local_dbms.proofs.Small.{IsBegunBy}
-use Rattle.fed_hosts.specs.declared.site_actor.Told.{Told}
+use Rattle.fed_hosts.specs.declared.site_actor.LineParts.{LineParts}
 use Rattle.fed_hosts.specs.declared.verbs.Verb.{Verb}
 use Rattle.fed_hosts.specs.declared.verbs.Verb.TheVariants as Asks
 use Rattle.fed_rules.specs.Short.{IsShortAnswer}
@@ -171,7 +171,7 @@ module _ (plan : SitePlan) (turns : List SiteTurn) (verb : Verb) (tx : Tx) where
       let further = subst (λ (n : ℕ). unless_begun (site_line plan.home past (Ev.Begin (attempt tx n))).answer ≡ Say.Spent) count last.further in
       inr (next_is ∙ asked ∙ own_begin plan.home past (plan.programs tx) tx own count ∙ begin_begins plan.home past (attempt tx most_begun) further)
 
-module _ (plan : SitePlan) (turns : List SiteTurn) (verb : Verb) (tx : Tx) (told : Told) (K : Home → OwnPrograms → SitePast → Type 0)
+module _ (plan : SitePlan) (turns : List SiteTurn) (verb : Verb) (tx : Tx) (told : LineParts) (K : Home → OwnPrograms → SitePast → Type 0)
     (serves : Serves K told.answer plan.home plan.programs (past_of plan turns) (own_request (rule_of verb) plan.home (plan.programs tx) (past_of plan turns) tx)) where
   pub asked_told : IsGoingOn plan.home (past_of plan turns) → IsSome (plan.programs tx) → (verb ≡ Asks.Begin → MayBegin plan.home (past_of plan turns) tx)
       → IsTold plan turns (record told { command = command_of verb tx; send = None; after = 0 }) None

@@ -11,7 +11,7 @@ use Rattle.local_dbms.specs.Stands.{Stands}
 use Rattle.scripted_link.specs.declared.outlet.Outlet.{Outlet}
 use Rattle.scripted_link.specs.Outlets.{offered}
 use Rattle.fed_hosts.specs.declared.site_actor.SiteActor.{SiteActor}
-use Rattle.fed_hosts.specs.declared.site_actor.Told.{Told}
+use Rattle.fed_hosts.specs.declared.site_actor.LineParts.{LineParts}
 use Rattle.fed_hosts.specs.Carrying.{HasArmed, IsTold, turn_of}
 use Rattle.fed_hosts.specs.Keeps.{IsKept, IsLogged, IsStop}
 use Rattle.host_laws.specs.Plans.{SitePlan, most_lines}
@@ -20,7 +20,7 @@ use Rattle.host_laws.specs.Turns.{SiteTurn, is_trip, past_of}
 use Rattle.fed_hosts.proofs.Adding.{logged_more}
 use Rattle.fed_hosts.proofs.Armed.{flushed}
 
-module _ {E D : Type 0} (stands : E → Start → List EngineLine → Type 0) (tells : Bool) (seen : Seen) (plan : SitePlan) (turns : List SiteTurn) (told : Told) (took : Option (Envelope ToSite)) where
+module _ {E D : Type 0} (stands : E → Start → List EngineLine → Type 0) (tells : Bool) (seen : Seen) (plan : SitePlan) (turns : List SiteTurn) (told : LineParts) (took : Option (Envelope ToSite)) where
   pub carried : (old mid armed : SiteActor E D) (outlet : Outlet) → IsKept plan turns old → length turns < most_lines → IsTold plan turns told took → is_trip told.command ≡ false
       → Each (IsStop plan.home.site.0) plan.stops → old.ends.site ≡ plan.home.site → Stands stands tells old.dbms seen plan.home plan.programs (past_of plan (turn_of old told took ∷ turns))
       → HasAdded old mid told → IsBeside old mid

@@ -21,7 +21,7 @@ use Rattle.scripted_link.specs.Inlets.{inlet_ring}
 use Rattle.scripted_link.specs.Outlets.{outlet_wire}
 use Rattle.scripted_link.specs.Rings.{Ring, Wire}
 use Rattle.fed_hosts.specs.declared.coord_actor.CoordActor.{CoordActor}
-use Rattle.fed_hosts.specs.declared.coord_actor.CoordTold.{CoordTold}
+use Rattle.fed_hosts.specs.declared.coord_actor.CoordLineParts.{CoordLineParts}
 use Rattle.fed_hosts.specs.declared.ports.Port.{Port}
 use Rattle.fed_hosts.specs.CoordCarrying.{IsCoordTold, coord_turn_of}
 use Rattle.host_laws.specs.CoordHistory.{IsCoordNext}
@@ -110,7 +110,7 @@ port_more plan turns turn sends a b is logged posted =
           (ap₂ (λ (n : ℕ) (ms : List ToSite). packets_to n turn.line.stamp ms) (ap (λ (ms : List ToSite). length ms) sent) message);
     }
 
-module _ {P D : Type 0} (rings : List Wire) (plan : CoordPlan) (turns : List CoordTurn) (told : CoordTold) (took : Option (Envelope FromSite)) (old new : CoordActor P D)
+module _ {P D : Type 0} (rings : List Wire) (plan : CoordPlan) (turns : List CoordTurn) (told : CoordLineParts) (took : Option (Envelope FromSite)) (old new : CoordActor P D)
     (logged : IsCoordLogged plan turns old) (is : IsCoordTold plan turns told took) (planned : IsCoordPlanned rings plan old.ports.items) (arms : is_trip told.command ≡ coord_is_due plan turns)
     (less : length turns < most_lines) (added : HasCoordAdded old new told) where
   stamp_is : next_stamp old.last told.after ≡ next_stamp (coord_last_stamp turns) (stamp_of took)
@@ -172,7 +172,7 @@ module _ {P D : Type 0} (rings : List Wire) (plan : CoordPlan) (turns : List Coo
   }
 
 -- a line that was pushed with what it sends
-pub coord_added : {P D : Type 0} (old new : CoordActor P D) (told : CoordTold) (stamp : ℕ) (sends : List Sent) (places : List Place) → stamp ≡ next_stamp old.last told.after
+pub coord_added : {P D : Type 0} (old new : CoordActor P D) (told : CoordLineParts) (stamp : ℕ) (sends : List Sent) (places : List Place) → stamp ≡ next_stamp old.last told.after
     → new.lines.items ≡ old.lines.items ++ record { stamp = stamp; line = record { command = told.command; answer = told.answer; sends = places } } ∷ [] → places ≡ places_at sends old.ports.items → sends ≡ told.sends
     → ArePosted sends stamp old.ports.items new.ports.items → new.last ≡ stamp → HasCoordAdded old new told
 coord_added {P} {D} old new told stamp sends places stamp_is lines places_are sends_are posted last = record {

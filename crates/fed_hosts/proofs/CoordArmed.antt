@@ -18,7 +18,7 @@ use Rattle.global_manager.specs.declared.manager.GlobalManager.{GlobalManager}
 use Rattle.global_manager.specs.Stands.{Sends, Stands}
 use Rattle.scripted_link.specs.Rings.{Wire}
 use Rattle.fed_hosts.specs.declared.coord_actor.CoordActor.{CoordActor}
-use Rattle.fed_hosts.specs.declared.coord_actor.CoordTold.{CoordTold}
+use Rattle.fed_hosts.specs.declared.coord_actor.CoordLineParts.{CoordLineParts}
 use Rattle.fed_hosts.specs.declared.ports.Port.{Port}
 use Rattle.fed_hosts.specs.CoordCarrying.{HasCoordArmed, IsCoordTold, coord_turn_of}
 use Rattle.fed_hosts.specs.CoordKeeps.{IsCoordLogged, IsCoordPlanned}
@@ -54,7 +54,7 @@ none_found (port ∷ ports) = none_found ports
 
 module _ {P : Type 0} (test : P → Policy) (tells : Bool) (seen : Seen) (plan : CoordPlan) (turns : List CoordTurn) where
   -- the line that arms a stop is told as the rules say
-  trip_told : (stop : StopLine) (told : CoordTold) (manager : GlobalManager P) → slice_get plan.stops (coord_trips_of turns) ≡ Some stop
+  trip_told : (stop : StopLine) (told : CoordLineParts) (manager : GlobalManager P) → slice_get plan.stops (coord_trips_of turns) ≡ Some stop
       → told ≡ record told { command = Cmd.Trip stop.actor stop.calls stop.cut; sends = []; after = 0 }
       → Sends (Stands test tells manager seen) (record { answer = told.answer; sends = [] }) plan.terms plan.programs (coord_past_of plan turns) (Ev.Trip stop.calls stop.cut)
       → IsCoordTold plan turns (record told { command = Cmd.Trip stop.actor stop.calls stop.cut; sends = []; after = 0 }) None
@@ -97,7 +97,7 @@ module _ {P D : Type 0} (test : P → Policy) (tells : Bool) (seen : Seen) (plan
       coord_none_left plan turns (omega (arith, stops, armed, all))
 
   -- the line that arms a stop
-  pub coord_arms : (rings : List Wire) (old new : CoordActor P D) (stop : StopLine) (told : CoordTold) → IsCoordLogged plan turns old → 1 ≤ length turns → IsCoordPlanned rings plan old.ports.items
+  pub coord_arms : (rings : List Wire) (old new : CoordActor P D) (stop : StopLine) (told : CoordLineParts) → IsCoordLogged plan turns old → 1 ≤ length turns → IsCoordPlanned rings plan old.ports.items
       → length turns < most_lines → old.armed < length old.stops.items → slice_get old.stops.items old.armed ≡ Some stop → is_some (trip (coord_past_of plan turns)) ≡ false
       → told ≡ record told { command = Cmd.Trip stop.actor stop.calls stop.cut; sends = []; after = 0 }
       → Sends (Stands test tells new.manager seen) (record { answer = told.answer; sends = [] }) plan.terms plan.programs (coord_past_of plan turns) (Ev.Trip stop.calls stop.cut)
@@ -109,7 +109,7 @@ module _ {P D : Type 0} (test : P → Policy) (tells : Bool) (seen : Seen) (plan
       let told' = record told { command = Cmd.Trip stop.actor stop.calls stop.cut; sends = []; after = 0 } in
       let trip_is' = trip_told test tells seen plan turns stop told new.manager at' is sends in
       let due = coord_one_due plan turns some unset left' in
-      let added' : HasCoordAdded old new told' = subst (λ (t : CoordTold). HasCoordAdded old new t) is added in
+      let added' : HasCoordAdded old new told' = subst (λ (t : CoordLineParts). HasCoordAdded old new t) is added in
       let turn = coord_turn_of old told' None in
       let one = each_at_place (IsStop 0) plan.stops (coord_trips_of turns) stop planned.stops at' in
       record {
@@ -126,7 +126,7 @@ module _ {P D : Type 0} (test : P → Policy) (tells : Bool) (seen : Seen) (plan
       }
 
 -- a line that was noted, as one that is told
-pub noted_added : {P D : Type 0} (old new : CoordActor P D) (told : CoordTold) → told.sends ≡ [] → told.after ≡ 0
+pub noted_added : {P D : Type 0} (old new : CoordActor P D) (told : CoordLineParts) → told.sends ≡ [] → told.after ≡ 0
     → new.lines.items ≡ old.lines.items ++ record { stamp = old.last + 1; line = record { command = told.command; answer = told.answer; sends = [] } } ∷ [] → new.ports ≡ old.ports → new.last ≡ old.last + 1 → HasCoordAdded old new told
 noted_added {P} {D} old new told silent alone lines ports last =
     let stamp : next_stamp old.last told.after ≡ old.last + 1 = omega (arith, alone) in

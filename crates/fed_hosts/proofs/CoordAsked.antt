@@ -30,7 +30,7 @@ use Rattle.global_manager.specs.Asks.{CanAsk, coord_request as ask_request}
 use Rattle.global_manager.specs.Stands.{EachManaged, Fails, OwnPrograms, Serves, Stands}
 use Rattle.scripted_link.specs.Rings.{Wire}
 use Rattle.fed_hosts.specs.declared.coord_actor.CoordActor.{CoordActor}
-use Rattle.fed_hosts.specs.declared.coord_actor.CoordTold.{CoordTold}
+use Rattle.fed_hosts.specs.declared.coord_actor.CoordLineParts.{CoordLineParts}
 use Rattle.fed_hosts.specs.declared.coord_asks.CoordCall.{CoordCall}
 use Rattle.fed_hosts.specs.declared.coord_asks.CoordCall.TheVariants as Call
 use Rattle.fed_rules.specs.Short.{IsShortAnswer}
@@ -158,7 +158,7 @@ module _ (terms : Terms) (past : CoordPast) (call : CoordCall) where
       let may' : MayGo terms past tid.tx = subst (λ (c : CoordCall). MayCall terms past c) next.0 may in
       few_by tid.tx steps other of (subst (λ (v : CoordEvent). begins_tx other (line_of terms past v).answer ≡ true) (event_is ∙ ap (λ (t : Tid). Ev.Go t steps) next.1) begins) may'
 
-module _ (plan : CoordPlan) (turns : List CoordTurn) (call : CoordCall) (told : CoordTold) (K : Terms → OwnPrograms → CoordPast → Type 0)
+module _ (plan : CoordPlan) (turns : List CoordTurn) (call : CoordCall) (told : CoordLineParts) (K : Terms → OwnPrograms → CoordPast → Type 0)
     (serves : Serves K (record { answer = told.answer; sends = told.sends }) plan.terms plan.programs (coord_past_of plan turns) (request_of_call plan.terms plan.programs (coord_past_of plan turns) call)) where
   pub call_told : IsKnown plan.programs call → MayCall plan.terms (coord_past_of plan turns) call → IsCoordTold plan turns (record told { command = command_of_call call; after = 0 }) None
   call_told known may =
@@ -267,7 +267,7 @@ module _ (plan : CoordPlan) (turns : List CoordTurn) where
 
 module _ {P D : Type 0} (test : P → Policy) (tells : Bool) (seen : D → Seen) (plan : CoordPlan) (rings : List Wire) where
   -- the line that a call makes
-  pub coord_call_line : (old : CoordActor P D) (manager : GlobalManager P) (disk : D) (new : CoordActor P D) (call : CoordCall) (told : CoordTold) (k : CoordKeeps test tells seen plan rings false old)
+  pub coord_call_line : (old : CoordActor P D) (manager : GlobalManager P) (disk : D) (new : CoordActor P D) (call : CoordCall) (told : CoordLineParts) (k : CoordKeeps test tells seen plan rings false old)
       → told ≡ record told { after = 0 } → told.command ≡ command_of_call call
       → Serves (Stands test tells manager (seen disk)) (record { answer = told.answer; sends = told.sends }) plan.terms plan.programs (coord_past_of plan k.turns)
       (request_of_call plan.terms plan.programs (coord_past_of plan k.turns) call)
@@ -278,8 +278,8 @@ module _ {P D : Type 0} (test : P → Policy) (tells : Bool) (seen : D → Seen)
       let turns = k.turns in
       let past = coord_past_of plan turns in
       let same : told ≡ record told { command = command_of_call call; after = 0 } =
-      shape ∙ ap (λ (c : Command). let t : CoordTold = record { command = c; answer = told.answer; sends = told.sends; after = 0 } in t) command in
-      let is : IsCoordTold plan turns told None = subst (λ (t : CoordTold). IsCoordTold plan turns t None) (sym same) (call_told plan turns call told (Stands test tells manager (seen disk)) serves known may) in
+      shape ∙ ap (λ (c : Command). let t : CoordLineParts = record { command = c; answer = told.answer; sends = told.sends; after = 0 } in t) command in
+      let is : IsCoordTold plan turns told None = subst (λ (t : CoordLineParts). IsCoordTold plan turns t None) (sym same) (call_told plan turns call told (Stands test tells manager (seen disk)) serves known may) in
       let stood : Stands test tells manager (seen disk) plan.terms plan.programs (coord_behind plan.terms past (coord_request plan past told.command None)) =
       subst (λ (c : Command). Stands test tells manager (seen disk) plan.terms plan.programs (coord_behind plan.terms past (coord_request plan past c None))) (sym command)
       (call_next plan turns call told (Stands test tells manager (seen disk)) serves) in

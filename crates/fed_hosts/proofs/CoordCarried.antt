@@ -10,7 +10,7 @@ use Rattle.global_manager.specs.declared.manager.GlobalManager.{GlobalManager}
 use Rattle.global_manager.specs.Stands.{Stands}
 use Rattle.scripted_link.specs.Rings.{Wire}
 use Rattle.fed_hosts.specs.declared.coord_actor.CoordActor.{CoordActor}
-use Rattle.fed_hosts.specs.declared.coord_actor.CoordTold.{CoordTold}
+use Rattle.fed_hosts.specs.declared.coord_actor.CoordLineParts.{CoordLineParts}
 use Rattle.fed_hosts.specs.declared.ports.Port.{Port}
 use Rattle.fed_hosts.specs.CoordCarrying.{HasCoordArmed, IsCoordTold, coord_turn_of}
 use Rattle.fed_hosts.specs.CoordKeeps.{IsCoordKept, IsCoordLogged, IsCoordPlanned}
@@ -37,7 +37,7 @@ module _ {P D : Type 0} (test : P → Policy) (tells : Bool) (seen : Seen) (plan
     took = h.took;
   }
 
-module _ {P D : Type 0} (test : P → Policy) (tells : Bool) (seen : Seen) (rings : List Wire) (plan : CoordPlan) (turns : List CoordTurn) (told : CoordTold) (took : Option (Envelope FromSite)) where
+module _ {P D : Type 0} (test : P → Policy) (tells : Bool) (seen : Seen) (rings : List Wire) (plan : CoordPlan) (turns : List CoordTurn) (told : CoordLineParts) (took : Option (Envelope FromSite)) where
   pub coord_carried : (old mid armed : CoordActor P D) (ports : Vec Port) → IsCoordKept plan turns old → length turns < most_lines → IsCoordTold plan turns told took → is_trip told.command ≡ false
       → IsCoordPlanned rings plan old.ports.items → Stands test tells old.manager seen plan.terms plan.programs (coord_past_of plan (coord_turn_of old told took ∷ turns))
       → HasCoordAdded old mid told → IsBesideCoord old mid

@@ -21,7 +21,7 @@ use Rattle.global_manager.specs.Stands.{Fails, Stands}
 use Rattle.scripted_link.specs.Inlets.{taken}
 use Rattle.scripted_link.specs.Rings.{Wire}
 use Rattle.fed_hosts.specs.declared.coord_actor.CoordActor.{CoordActor}
-use Rattle.fed_hosts.specs.declared.coord_actor.CoordTold.{CoordTold}
+use Rattle.fed_hosts.specs.declared.coord_actor.CoordLineParts.{CoordLineParts}
 use Rattle.fed_hosts.specs.declared.ports.Port.{Port}
 use Rattle.fed_hosts.specs.CoordCarrying.{HasCoordArmed, IsBesideCoordLines, IsCoordTold, coord_turn_of}
 use Rattle.host_laws.specs.CoordHearing.{HasHeardFrom}
@@ -67,7 +67,7 @@ pub submitted : (event other : CoordEvent) → Submits event ≡ Submits other �
 submitted event other e = cc
 
 -- what a line that is carried leaves of all that the actor stands for
-abbrev pub CoordCarries : {P D : Type 0} → (P → Policy) → Bool → Seen → CoordActor P D → CoordActor P D → CoordTold → Type 0
+abbrev pub CoordCarries : {P D : Type 0} → (P → Policy) → Bool → Seen → CoordActor P D → CoordActor P D → CoordLineParts → Type 0
 CoordCarries test tells seen old new told =
     (rings : List Wire) (plan : CoordPlan) (turns : List CoordTurn) (took : Option (Envelope FromSite)) → IsCoordKept plan turns old → length turns < most_lines → IsCoordTold plan turns told took → is_trip told.command ≡ false
     → IsCoordPlanned rings plan old.ports.items → Stands test tells old.manager seen plan.terms plan.programs (coord_past_of plan (coord_turn_of old told took ∷ turns))
@@ -139,12 +139,12 @@ module _ {P D : Type 0} (test : P → Policy) (tells : Bool) (seen : D → Seen)
       standing Err_is.Disk (Declines answer) e f = absurd f
 
   -- what a line leaves
-  pub record HasCoordLine (old new : CoordActor P D) (told : CoordTold) : Type 0 where
+  pub record HasCoordLine (old new : CoordActor P D) (told : CoordLineParts) : Type 0 where
     pub keeps : CoordKeeps test tells seen plan rings false new
     pub view : coord_view_of new false ≡ record (coord_view_of old false) { lines = new.lines.items }
     pub adds : Adds old.lines.items new.lines.items told.command told.answer
 
-  pub coord_line_carried : (old : CoordActor P D) (manager : GlobalManager P) (disk : D) (new : CoordActor P D) (turns : List CoordTurn) (told : CoordTold) (took : Option (Envelope FromSite))
+  pub coord_line_carried : (old : CoordActor P D) (manager : GlobalManager P) (disk : D) (new : CoordActor P D) (turns : List CoordTurn) (told : CoordLineParts) (took : Option (Envelope FromSite))
       → IsCoordPlanned rings plan old.ports.items → IsCoordKept plan turns old → length old.lines.items < most_lines → IsCoordTold plan turns told took → is_trip told.command ≡ false
       → Stands test tells manager (seen disk) plan.terms plan.programs (coord_behind plan.terms (coord_past_of plan turns) (coord_request plan (coord_past_of plan turns) told.command took))
       → HaveHeard (coord_turn_of (record old { manager = manager; disk = disk }) told took ∷ turns) old.ports.items → (seen disk).faults ≡ plan.faults
@@ -162,10 +162,10 @@ module _ {P D : Type 0} (test : P → Policy) (tells : Bool) (seen : D → Seen)
       }
 
   -- seen from before room was made
-  pub coord_line_view : (old ready new : CoordActor P D) (told : CoordTold) → IsSameCoord old ready → ready.first ≡ old.first → HasCoordLine ready new told → coord_view_of new false ≡ record (coord_view_of old false) { lines = new.lines.items }
+  pub coord_line_view : (old ready new : CoordActor P D) (told : CoordLineParts) → IsSameCoord old ready → ready.first ≡ old.first → HasCoordLine ready new told → coord_view_of new false ≡ record (coord_view_of old false) { lines = new.lines.items }
   coord_line_view old ready new told same first h = h.view ∙ ap (λ (v : CoordView). record v { lines = new.lines.items }) (coord_view_same old ready same first false)
 
-  pub coord_line_adds : (old ready new : CoordActor P D) (told : CoordTold) (command : Command) (answer : Answer) → IsSameCoord old ready → HasCoordLine ready new told → told.command ≡ command → told.answer ≡ answer
+  pub coord_line_adds : (old ready new : CoordActor P D) (told : CoordLineParts) (command : Command) (answer : Answer) → IsSameCoord old ready → HasCoordLine ready new told → told.command ≡ command → told.answer ≡ answer
       → Adds old.lines.items new.lines.items command answer
   coord_line_adds old ready new told command answer same h command_is answer_is =
       subst (λ (ls : List Stamped). Adds ls new.lines.items command answer) same.lines

@@ -41,7 +41,7 @@ use Rattle.scripted_link.specs.declared.outlet.Outlet.{Outlet}
 use Rattle.scripted_link.specs.Outlets.{HasMovedOn, IsReserved, offered, outlet_wire}
 use Rattle.scripted_link.specs.Rings.{Wire}
 use Rattle.fed_hosts.specs.declared.coord_actor.CoordActor.{CoordActor}
-use Rattle.fed_hosts.specs.declared.coord_actor.CoordTold.{CoordTold}
+use Rattle.fed_hosts.specs.declared.coord_actor.CoordLineParts.{CoordLineParts}
 use Rattle.fed_hosts.specs.declared.ports.Port.{Port}
 use Rattle.fed_hosts.specs.declared.rounds.Arrived.{Arrived}
 use Rattle.fed_hosts.specs.CoordCarrying.{IsBesideCoordLines, IsCoordTold, coord_turn_of}
@@ -67,7 +67,7 @@ use Rattle.fed_hosts.proofs.CoordSame.{HasSentSame, coord_kept_ports, moved_port
 use Rattle.fed_hosts.proofs.CoordServed.{CoordCarries, HasCoordLine, coord_keeps_failed, coord_keeps_heard, coord_line_carried, heard_alone, submitted}
 use Rattle.fed_hosts.proofs.Polled.{arrived_elsewhere, arrived_here, beside_inlet, with_inlet}
 
-module _ (plan : CoordPlan) (turns : List CoordTurn) (told : CoordTold) (took : Option (Envelope FromSite)) (event : CoordEvent) where
+module _ (plan : CoordPlan) (turns : List CoordTurn) (told : CoordLineParts) (took : Option (Envelope FromSite)) (event : CoordEvent) where
   event_told : IsCoordCommand plan turns told.command took → told.after ≡ stamp_of took → stamp_of took < 2 ^ 62 → coord_request plan (coord_past_of plan turns) told.command took ≡ Submits event → BeginsNothing event
       → MayPrint plan.terms.protocols (coord_past_of plan turns) (line_of plan.terms (coord_past_of plan turns) event) (line_of plan.terms (coord_past_of plan turns) event).event told.answer
       → told.sends ≡ (line_of plan.terms (coord_past_of plan turns) event).sends → IsCoordTold plan turns told took
@@ -99,7 +99,7 @@ few_sent plan turns actor kept place port at =
     omega (arith, sent, few, short)
 
 -- the room and the numbers of a line
-pub coord_line_ready : {P D : Type 0} (actor : CoordActor P D) (plan : CoordPlan) (turns : List CoordTurn) (told : CoordTold) → IsCoordKept plan turns actor → HasCoordRoom actor → told.after < 2 ^ 62 → IsCoordReady actor told
+pub coord_line_ready : {P D : Type 0} (actor : CoordActor P D) (plan : CoordPlan) (turns : List CoordTurn) (told : CoordLineParts) → IsCoordKept plan turns actor → HasCoordRoom actor → told.after < 2 ^ 62 → IsCoordReady actor told
 coord_line_ready actor plan turns told kept room small =
     let l = kept.logged in
     let last = l.last in
@@ -262,29 +262,29 @@ module _ {P D : Type 0} (test : P → Policy) (tells : Bool) (seen : D → Seen)
       (beside : IsBesideCoordLines (record old { manager = manager; disk = disk }) new) (moved_on : HaveMovedOn new.ports.items) where
     -- the line of a start
     pub coord_start_line : (k : CoordKeeps test tells seen plan rings false old) (step : CoordStep)
-        → Sends (Stands test tells manager (seen disk)) step plan.terms plan.programs (coord_past_of plan k.turns) Ev.Back → (told : CoordTold)
+        → Sends (Stands test tells manager (seen disk)) step plan.terms plan.programs (coord_past_of plan k.turns) Ev.Back → (told : CoordLineParts)
         → told ≡ record { command = Cmd.Back 0; answer = step.answer; sends = step.sends; after = 0 }
         → CoordCarries test tells (seen disk) (record old { manager = manager; disk = disk }) new told → HasCoordLine test tells seen plan rings old new told
     coord_start_line k step sends told told_is carries =
-        let made : CoordTold = record { command = Cmd.Back 0; answer = step.answer; sends = step.sends; after = 0 } in
+        let made : CoordLineParts = record { command = Cmd.Back 0; answer = step.answer; sends = step.sends; after = 0 } in
         let is = event_told plan k.turns made None Ev.Back (refl, refl) refl (omega arith) refl tt sends.said sends.sent in
-        subst (λ (t : CoordTold). HasCoordLine test tells seen plan rings old new t) (sym told_is)
+        subst (λ (t : CoordLineParts). HasCoordLine test tells seen plan rings old new t) (sym told_is)
         (coord_line_carried test tells seen plan rings old manager disk new k.turns made None k.planned k.kept few is refl sends.next
         (heard_alone (coord_turn_of (record old { manager = manager; disk = disk }) made None) k.turns old.ports.items refl k.heard) (faults ∙ k.faults)
-        (subst (λ (t : CoordTold). CoordCarries test tells (seen disk) (record old { manager = manager; disk = disk }) new t) told_is carries) beside moved_on)
+        (subst (λ (t : CoordLineParts). CoordCarries test tells (seen disk) (record old { manager = manager; disk = disk }) new t) told_is carries) beside moved_on)
 
     -- the line of a message that is taken
     pub coord_take_line : (arrived : Arrived) (h : HoldsFrom test tells seen plan rings arrived old) (from : Port) (envelope : Envelope FromSite) (step : CoordStep)
         → slice_get old.ports.items arrived.place ≡ Some from → BearsFrom arrived.packet envelope
-        → Sends (Stands test tells manager (seen disk)) step plan.terms plan.programs (coord_past_of plan h.keeps.turns) (Ev.Take from.ends.site envelope.message) → (told : CoordTold)
+        → Sends (Stands test tells manager (seen disk)) step plan.terms plan.programs (coord_past_of plan h.keeps.turns) (Ev.Take from.ends.site envelope.message) → (told : CoordLineParts)
         → told ≡ record { command = Cmd.Take from.ends.site envelope.index; answer = step.answer; sends = step.sends; after = envelope.stamp }
         → CoordCarries test tells (seen disk) (record old { manager = manager; disk = disk }) new told → HasCoordLine test tells seen plan rings old new told
     coord_take_line arrived h from envelope step at bears sends told told_is carries =
         let k = h.keeps in
-        let made : CoordTold = record { command = Cmd.Take from.ends.site envelope.index; answer = step.answer; sends = step.sends; after = envelope.stamp } in
+        let made : CoordLineParts = record { command = Cmd.Take from.ends.site envelope.index; answer = step.answer; sends = step.sends; after = envelope.stamp } in
         let among = port_among rings plan old.ports.items arrived.place from k.planned at in
         let is = event_told plan k.turns made (Some envelope) (Ev.Take from.ends.site envelope.message) (among, record { envelope = envelope; is = refl; place_is = refl }) refl bears.small refl tt sends.said sends.sent in
-        subst (λ (t : CoordTold). HasCoordLine test tells seen plan rings old new t) (sym told_is)
+        subst (λ (t : CoordLineParts). HasCoordLine test tells seen plan rings old new t) (sym told_is)
         (coord_line_carried test tells seen plan rings old manager disk new k.turns made (Some envelope) k.planned k.kept few is refl sends.next
         (heard_taken rings plan (coord_turn_of (record old { manager = manager; disk = disk }) made (Some envelope)) k.turns h.before old.ports.items arrived envelope from k.planned k.standing.core.holds.sound.rising h.polled k.heard bears at refl refl)
-        (faults ∙ k.faults) (subst (λ (t : CoordTold). CoordCarries test tells (seen disk) (record old { manager = manager; disk = disk }) new t) told_is carries) beside moved_on)
+        (faults ∙ k.faults) (subst (λ (t : CoordLineParts). CoordCarries test tells (seen disk) (record old { manager = manager; disk = disk }) new t) told_is carries) beside moved_on)

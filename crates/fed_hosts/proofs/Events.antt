@@ -14,7 +14,7 @@ use Rattle.fed_rules.specs.SitePast.{attempts_of, begins_tx}
 use Rattle.fed_messages.specs.declared.Envelope.{Envelope}
 use Rattle.rules_laws.proofs.SitePasts.{BeginsNone}
 use Rattle.site_core.specs.Made.{IsGoingOn}
-use Rattle.fed_hosts.specs.declared.site_actor.Told.{Told}
+use Rattle.fed_hosts.specs.declared.site_actor.LineParts.{LineParts}
 use Rattle.fed_hosts.specs.Carrying.{IsTold}
 use Rattle.host_laws.specs.History.{IsCommand}
 use Rattle.fed_hosts.specs.Keeps.{most_begun}
@@ -26,7 +26,7 @@ use Rattle.fed_hosts.proofs.Asked.{line_begins}
 none_begun : (event : SiteEvent) (tid : Tid) → BeginsNone event → event ≡ Ev.Begin tid → ⊥
 none_begun event tid none is = subst BeginsNone is none
 
-module _ (plan : SitePlan) (turns : List SiteTurn) (told : Told) (took : Option (Envelope ToSite)) (event : SiteEvent) where
+module _ (plan : SitePlan) (turns : List SiteTurn) (told : LineParts) (took : Option (Envelope ToSite)) (event : SiteEvent) where
   pub event_told : IsCommand plan turns told.command took → told.after ≡ stamp_of took → stamp_of took < 2 ^ 62 → request_of plan (past_of plan turns) told.command took ≡ Submits event
       → IsGoingOn plan.home (past_of plan turns) → BeginsNone event → told.answer ≡ (site_line plan.home (past_of plan turns) event).answer
       → option_to_list told.send ≡ (site_line plan.home (past_of plan turns) event).sends → IsTold plan turns told took

@@ -23,7 +23,7 @@ use Rattle.scripted_link.specs.Inlets.{empty_count, taken}
 use Rattle.scripted_link.specs.Outlets.{HasMovedOn}
 use Rattle.scripted_link.specs.Rings.{Wire}
 use Rattle.fed_hosts.specs.declared.site_actor.SiteActor.{SiteActor}
-use Rattle.fed_hosts.specs.declared.site_actor.Told.{Told}
+use Rattle.fed_hosts.specs.declared.site_actor.LineParts.{LineParts}
 use Rattle.fed_hosts.specs.Carrying.{HasArmed, IsBesideLines, IsTold, turn_of}
 use Rattle.host_laws.specs.Hearing.{HasHeard}
 use Rattle.fed_hosts.specs.Keeps.{IsKept, IsPlanned, IsStop, Keeps, KeepsFor}
@@ -49,7 +49,7 @@ past_short plan (turn ∷ turns) =
     omega (arith, one, others)
 
 -- what a line that is carried leaves of all that the actor stands for
-abbrev pub Carries : {E D : Type 0} → (E → Start → List EngineLine → Type 0) → Bool → Seen → SiteActor E D → SiteActor E D → Told → Type 0
+abbrev pub Carries : {E D : Type 0} → (E → Start → List EngineLine → Type 0) → Bool → Seen → SiteActor E D → SiteActor E D → LineParts → Type 0
 Carries stands tells seen old new told =
     (plan : SitePlan) (turns : List SiteTurn) (took : Option (Envelope ToSite)) → IsKept plan turns old → length turns < most_lines → IsTold plan turns told took → is_trip told.command ≡ false
     → Each (IsStop plan.home.site.0) plan.stops → old.ends.site ≡ plan.home.site → Stands stands tells old.dbms seen plan.home plan.programs (past_of plan (turn_of old told took ∷ turns))
@@ -80,12 +80,12 @@ module _ {E D : Type 0} (stands : E → Start → List EngineLine → Type 0) (t
   keeps_seen failed shown actor k = record { place = k.planned.place; at = k.planned.at; site = k.planned.site; right = k.kept.logged.right; lines = k.kept.logged.lines; heard = k.heard }
 
   -- what a line leaves
-  pub record HasLine (old new : SiteActor E D) (told : Told) : Type 0 where
+  pub record HasLine (old new : SiteActor E D) (told : LineParts) : Type 0 where
     pub keeps : Keeps stands tells seen sites rings false new
     pub view : view_of new false ≡ record (view_of old false) { lines = new.lines.items }
     pub adds : Adds old.lines.items new.lines.items told.command told.answer
 
-  pub line_carried : (old : SiteActor E D) (dbms : LocalDbms E) (disk : D) (new : SiteActor E D) (plan : SitePlan) (turns : List SiteTurn) (told : Told) (took : Option (Envelope ToSite)) (packets : List Packet)
+  pub line_carried : (old : SiteActor E D) (dbms : LocalDbms E) (disk : D) (new : SiteActor E D) (plan : SitePlan) (turns : List SiteTurn) (told : LineParts) (took : Option (Envelope ToSite)) (packets : List Packet)
       → IsPlanned sites rings plan old.ends → IsKept plan turns old → length old.lines.items < most_lines → IsTold plan turns told took → is_trip told.command ≡ false
       → Stands stands tells dbms (seen disk) plan.home plan.programs (past_behind plan.home (past_of plan turns) (request_of plan (past_of plan turns) told.command took))
       → taken old.ends.inlet ≡ packets → HasHeard plan.programs packets (with_some took (found (λ (turn : SiteTurn). turn.took) turns)) → (seen disk).faults ≡ plan.faults
@@ -103,10 +103,10 @@ module _ {E D : Type 0} (stands : E → Start → List EngineLine → Type 0) (t
       }
 
   -- seen from before room was made
-  pub line_view : (old ready new : SiteActor E D) (told : Told) → IsSame old ready → ready.idle ≡ old.idle → HasLine ready new told → view_of new false ≡ record (view_of old false) { lines = new.lines.items }
+  pub line_view : (old ready new : SiteActor E D) (told : LineParts) → IsSame old ready → ready.idle ≡ old.idle → HasLine ready new told → view_of new false ≡ record (view_of old false) { lines = new.lines.items }
   line_view old ready new told same idle h = h.view ∙ ap (λ (v : SiteView). record v { lines = new.lines.items }) (view_same old ready same idle false)
 
-  pub line_adds : (old ready new : SiteActor E D) (told : Told) (command : Command) (answer : Answer) → IsSame old ready → HasLine ready new told → told.command ≡ command → told.answer ≡ answer
+  pub line_adds : (old ready new : SiteActor E D) (told : LineParts) (command : Command) (answer : Answer) → IsSame old ready → HasLine ready new told → told.command ≡ command → told.answer ≡ answer
       → Adds old.lines.items new.lines.items command answer
   line_adds old ready new told command answer same h command_is answer_is =
       subst (λ (ls : List Stamped). Adds ls new.lines.items command answer) same.lines

@@ -26,7 +26,7 @@ use Rattle.scripted_link.specs.Inlets.{inlet_ring, returned, taken}
 use Rattle.scripted_link.specs.Outlets.{HasMovedOn}
 use Rattle.scripted_link.specs.Rings.{Wire}
 use Rattle.fed_hosts.specs.declared.site_actor.SiteActor.{SiteActor}
-use Rattle.fed_hosts.specs.declared.site_actor.Told.{Told}
+use Rattle.fed_hosts.specs.declared.site_actor.LineParts.{LineParts}
 use Rattle.fed_hosts.specs.Carrying.{IsBesideLines}
 use Rattle.host_laws.specs.Hearing.{Bears, HasHeard, IsRead}
 use Rattle.fed_hosts.specs.Keeps.{HoldsPacket, IsBorne, IsKept, IsUnfinished, Keeps, KeepsFor}
@@ -148,7 +148,7 @@ module _ {E D : Type 0} (stands : E → Start → List EngineLine → Type 0) (t
         → Carries stands tells (seen disk) (record old { dbms = dbms; disk = disk }) new (record { command = Cmd.Back old.ends.site.0; answer = step.answer; send = None; after = 0 })
         → HasLine stands tells seen sites rings old new (record { command = Cmd.Back old.ends.site.0; answer = step.answer; send = None; after = 0 })
     start_line k step serves carries =
-        let told : Told = record { command = Cmd.Back old.ends.site.0; answer = step.answer; send = None; after = 0 } in
+        let told : LineParts = record { command = Cmd.Back old.ends.site.0; answer = step.answer; send = None; after = 0 } in
         let none = (line_back k.plan.home (past_of k.plan k.turns)).0 in
         let is = event_told k.plan k.turns told None Ev.Back (ap (λ (s : SiteId). s.0) k.planned.site, refl) refl (omega arith) refl k.standing.core.holds.made tt serves.said (sym none) in
         line_carried stands tells seen sites rings old dbms disk new k.plan k.turns told None (taken old.ends.inlet) k.planned k.kept few is refl serves.next refl k.heard (faults ∙ k.faults) carries beside moved_on
@@ -159,7 +159,7 @@ module _ {E D : Type 0} (stands : E → Start → List EngineLine → Type 0) (t
         → Carries stands tells (seen disk) (record old { dbms = dbms; disk = disk }) new (record { command = Cmd.Ask old.ends.site tid; answer = step.answer; send = step.sends; after = 0 })
         → HasLine stands tells seen sites rings old new (record { command = Cmd.Ask old.ends.site tid; answer = step.answer; send = step.sends; after = 0 })
     ask_line k tid step sends carries =
-        let told : Told = record { command = Cmd.Ask old.ends.site tid; answer = step.answer; send = step.sends; after = 0 } in
+        let told : LineParts = record { command = Cmd.Ask old.ends.site tid; answer = step.answer; send = step.sends; after = 0 } in
         let is = event_told k.plan k.turns told None (Ev.Ask tid) (k.planned.site, refl) refl (omega arith) refl k.standing.core.holds.made tt sends.said sends.sent in
         line_carried stands tells seen sites rings old dbms disk new k.plan k.turns told None (taken old.ends.inlet) k.planned k.kept few is refl sends.next refl k.heard (faults ∙ k.faults) carries beside moved_on
 
@@ -170,13 +170,13 @@ module _ {E D : Type 0} (stands : E → Start → List EngineLine → Type 0) (t
         → HasLine stands tells seen sites rings old new (record { command = Cmd.Give old.ends.site envelope.index; answer = step.answer; send = step.sends; after = envelope.stamp })
     give_line packet h envelope step bears sends carries =
         let k = h.keeps in
-        let told : Told = record { command = Cmd.Give old.ends.site envelope.index; answer = step.answer; send = step.sends; after = envelope.stamp } in
+        let told : LineParts = record { command = Cmd.Give old.ends.site envelope.index; answer = step.answer; send = step.sends; after = envelope.stamp } in
         let is = event_told k.plan k.turns told (Some envelope) (Ev.Give envelope.message) (k.planned.site, record { envelope = envelope; is = refl; place_is = refl }) refl bears.small refl k.standing.core.holds.made tt sends.said sends.sent in
         line_carried stands tells seen sites rings old dbms disk new k.plan k.turns told (Some envelope) (h.before ++ packet ∷ []) k.planned k.kept few is refl sends.next h.took
         (heard_more k.plan.programs h.before (found (λ (t : SiteTurn). t.took) k.turns) packet (Some envelope) k.heard bears) (faults ∙ k.faults) carries beside moved_on
 
   -- the room and the numbers of a line that may send a message
-  pub line_ready : (actor : SiteActor E D) (plan : SitePlan) (turns : List SiteTurn) (told : Told) → IsKept plan turns actor → HasRoom actor → told.after < 2 ^ 62 → IsReady actor told
+  pub line_ready : (actor : SiteActor E D) (plan : SitePlan) (turns : List SiteTurn) (told : LineParts) → IsKept plan turns actor → HasRoom actor → told.after < 2 ^ 62 → IsReady actor told
   line_ready actor plan turns told kept room small =
       let l = kept.logged in
       let last = l.last in

@@ -12,7 +12,7 @@ use Rattle.journal_disk.specs.Disk.{Seen}
 use Rattle.local_dbms.specs.Stands.{Stands}
 use Rattle.scripted_link.specs.Outlets.{outlet_wire}
 use Rattle.fed_hosts.specs.declared.site_actor.SiteActor.{SiteActor}
-use Rattle.fed_hosts.specs.declared.site_actor.Told.{Told}
+use Rattle.fed_hosts.specs.declared.site_actor.LineParts.{LineParts}
 use Rattle.host_laws.specs.History.{IsCommand}
 use Rattle.fed_hosts.specs.Keeps.{IsKept, most_begun}
 use Rattle.host_laws.specs.Lines.{stamp_of}
@@ -22,7 +22,7 @@ use Rattle.host_laws.specs.Turns.{SiteTurn, past_of, request_of, sends_of}
 use Rattle.fed_hosts.specs.Views.{IsArming}
 
 -- what is told of a line is what the rules make of its command behind these lines, with the envelope that it takes
-pub record IsTold (plan : SitePlan) (turns : List SiteTurn) (told : Told) (took : Option (Envelope ToSite)) : Type 0 where
+pub record IsTold (plan : SitePlan) (turns : List SiteTurn) (told : LineParts) (took : Option (Envelope ToSite)) : Type 0 where
   pub command : IsCommand plan turns told.command took
   pub after : told.after ≡ stamp_of took
   pub small : stamp_of took < 2 ^ 62
@@ -33,7 +33,7 @@ pub record IsTold (plan : SitePlan) (turns : List SiteTurn) (told : Told) (took 
   pub few : (tx : Tx) → begins_tx tx told.answer ≡ true → attempts_of (past_of plan turns) tx < most_begun
 
 -- the line that this becomes
-abbrev pub turn_of : {E D : Type 0} → SiteActor E D → Told → Option (Envelope ToSite) → SiteTurn
+abbrev pub turn_of : {E D : Type 0} → SiteActor E D → LineParts → Option (Envelope ToSite) → SiteTurn
 turn_of actor told took = record { line = line_of actor.ends.site actor.last (length actor.sent.items) told; took = took }
 
 -- behind the lines of these turns stand further lines, which take no packet, and no stop has still to be armed

@@ -11,7 +11,7 @@ use Rattle.fed_messages.specs.declared.Envelope.{Envelope}
 use Rattle.journal_disk.specs.Disk.{Seen}
 use Rattle.global_manager.specs.Stands.{Stands}
 use Rattle.fed_hosts.specs.declared.coord_actor.CoordActor.{CoordActor}
-use Rattle.fed_hosts.specs.declared.coord_actor.CoordTold.{CoordTold}
+use Rattle.fed_hosts.specs.declared.coord_actor.CoordLineParts.{CoordLineParts}
 use Rattle.host_laws.specs.CoordHistory.{IsCoordCommand}
 use Rattle.fed_hosts.specs.CoordKeeps.{IsCoordKept}
 use Rattle.host_laws.specs.CoordPlans.{CoordPlan}
@@ -23,7 +23,7 @@ use Rattle.fed_hosts.specs.Ports.{AreBesidePorts}
 use Rattle.fed_hosts.specs.Views.{IsArming}
 
 -- what is told of a line is what the rules make of its command behind these lines, with the envelope that it takes
-pub record IsCoordTold (plan : CoordPlan) (turns : List CoordTurn) (told : CoordTold) (took : Option (Envelope FromSite)) : Type 0 where
+pub record IsCoordTold (plan : CoordPlan) (turns : List CoordTurn) (told : CoordLineParts) (took : Option (Envelope FromSite)) : Type 0 where
   pub command : IsCoordCommand plan turns told.command took
   pub after : told.after ≡ stamp_of took
   pub small : stamp_of took < 2 ^ 62
@@ -34,7 +34,7 @@ pub record IsCoordTold (plan : CoordPlan) (turns : List CoordTurn) (told : Coord
   pub few : (tx : Tx) → begins_tx tx told.answer ≡ true → attempts_of (coord_past_of plan turns) tx < most_begun
 
 -- the line that this becomes
-abbrev pub coord_turn_of : {P D : Type 0} → CoordActor P D → CoordTold → Option (Envelope FromSite) → CoordTurn
+abbrev pub coord_turn_of : {P D : Type 0} → CoordActor P D → CoordLineParts → Option (Envelope FromSite) → CoordTurn
 coord_turn_of actor told took = record { line = coord_line_of actor.last actor.ports.items told; took = took }
 
 -- behind the lines of these turns stand further lines, which take no packet, and no stop has still to be armed

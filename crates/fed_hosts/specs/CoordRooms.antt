@@ -5,7 +5,7 @@ use Rattle.std.specs.Vec.{vec_len, vec_capacity}
 use Rattle.fed_rules.specs.declared.commands.Place.{Place}
 use Rattle.fed_rules.specs.declared.commands.Stamped.{Stamped}
 use Rattle.fed_hosts.specs.declared.coord_actor.CoordActor.{CoordActor}
-use Rattle.fed_hosts.specs.declared.coord_actor.CoordTold.{CoordTold}
+use Rattle.fed_hosts.specs.declared.coord_actor.CoordLineParts.{CoordLineParts}
 use Rattle.fed_hosts.specs.declared.ports.Port.{Port}
 use Rattle.host_laws.specs.Lines.{next_stamp}
 use Rattle.fed_hosts.specs.Ports.{ArePosted, AreSamePorts, HaveFewSent, HavePortRoom, places_at}
@@ -26,7 +26,7 @@ abbrev pub HasCoordLineRoom : {P D : Type 0} → CoordActor P D → Type 0
 HasCoordLineRoom actor = vec_len actor.lines < vec_capacity actor.lines
 
 -- the line has room and its stamp, and what it sends is ready
-pub record IsCoordReady {P D : Type 0} (actor : CoordActor P D) (told : CoordTold) : Type 0 where
+pub record IsCoordReady {P D : Type 0} (actor : CoordActor P D) (told : CoordLineParts) : Type 0 where
   pub line : HasCoordLineRoom actor
   pub last : actor.last + 1 < 2 ^ 64
   pub after : told.after + 1 < 2 ^ 64
@@ -35,7 +35,7 @@ pub record IsCoordReady {P D : Type 0} (actor : CoordActor P D) (told : CoordTol
   pub few : HaveFewSent actor.ports.items
 
 -- the line behind this stamp and what these ports sent
-abbrev pub coord_line_of : ℕ → List Port → CoordTold → Stamped
+abbrev pub coord_line_of : ℕ → List Port → CoordLineParts → Stamped
 coord_line_of last ports told =
     record {
       stamp = next_stamp last told.after;
@@ -43,7 +43,7 @@ coord_line_of last ports told =
     }
 
 -- the line stands behind the others, and what it sends was kept and offered
-pub record HasCoordAdded {P D : Type 0} (old new : CoordActor P D) (told : CoordTold) : Type 0 where
+pub record HasCoordAdded {P D : Type 0} (old new : CoordActor P D) (told : CoordLineParts) : Type 0 where
   pub lines : new.lines.items ≡ old.lines.items ++ coord_line_of old.last old.ports.items told ∷ []
   pub ports : ArePosted told.sends (next_stamp old.last told.after) old.ports.items new.ports.items
   pub last : new.last ≡ next_stamp old.last told.after

@@ -3,7 +3,7 @@ use Rattle.std.specs.Prelude.{◌≡◌, ◌+◌, ◌<◌, ◌≤◌, ◌^◌, [
 use Rattle.std.specs.Vec.{vec_len, vec_capacity}
 use Rattle.scripted_link.specs.Outlets.{IsReserved, free_slots, offered, outlet_wire, queued}
 use Rattle.fed_hosts.specs.declared.site_actor.SiteActor.{SiteActor}
-use Rattle.fed_hosts.specs.declared.site_actor.Told.{Told}
+use Rattle.fed_hosts.specs.declared.site_actor.LineParts.{LineParts}
 use Rattle.host_laws.specs.Lines.{next_stamp, packets_at}
 use Rattle.fed_hosts.specs.Lines.{line_of}
 
@@ -24,14 +24,14 @@ pub record IsSendReady {E D : Type 0} (actor : SiteActor E D) : Type 0 where
   pub outlet : IsReserved actor.ends.outlet
 
 -- the line has room and its stamp, and what it sends is ready
-pub record IsReady {E D : Type 0} (actor : SiteActor E D) (told : Told) : Type 0 where
+pub record IsReady {E D : Type 0} (actor : SiteActor E D) (told : LineParts) : Type 0 where
   pub line : HasLineRoom actor
   pub last : actor.last + 1 < 2 ^ 64
   pub after : told.after + 1 < 2 ^ 64
   pub send : IsSome told.send → IsSendReady actor
 
 -- the line stands behind the others, and what it sends was kept and offered
-pub record HasAdded {E D : Type 0} (old new : SiteActor E D) (told : Told) : Type 0 where
+pub record HasAdded {E D : Type 0} (old new : SiteActor E D) (told : LineParts) : Type 0 where
   pub lines : new.lines.items ≡ old.lines.items ++ line_of old.ends.site old.last (length old.sent.items) told ∷ []
   pub sent : new.sent.items ≡ old.sent.items ++ option_to_list told.send
   pub offers : offered new.ends.outlet ≡ offered old.ends.outlet ++ packets_at (length old.sent.items) (next_stamp old.last told.after) (option_to_list told.send)

@@ -12,7 +12,7 @@ ghost use Rattle.host_laws.specs.Plans.{SitePlan, most_lines};
 ghost use Rattle.fed_hosts.specs.Rooms.{HasLineRoom, HasRoom, IsReady};
 ghost use Rattle.host_laws.specs.Turns.{SiteTurn, is_trip, past_of};
 
-use crate::site_actor::{MOST_LINES, SiteActor, Told};
+use crate::site_actor::{LineParts, MOST_LINES, SiteActor};
 use engine_contract::LocalEngine;
 use fed_rules::{Command, StopLine};
 use journal_disk::Disk;
@@ -45,7 +45,7 @@ impl<E: LocalEngine, D: Disk> SiteActor<E, D> {
         let stop = stop_at(&self.stops, self.armed);
         let answer = self.dbms.arm(stop.calls, stop.cut);
         self.armed += 1;
-        self.keep(Told {
+        self.keep(LineParts {
             command: Command::Trip {
                 actor: stop.actor,
                 calls: stop.calls,
@@ -58,7 +58,7 @@ impl<E: LocalEngine, D: Disk> SiteActor<E, D> {
     }
 
     /// Adds a line, arms the next scripted stop behind it, and moves what is sent on its way.
-    pub(crate) fn carry(&mut self, told: Told)
+    pub(crate) fn carry(&mut self, told: LineParts)
         requires room { HasRoom self.old }
         requires ready { IsReady self.old told }
         requires last { self.old.last + 2 < 2 ^ 64 }

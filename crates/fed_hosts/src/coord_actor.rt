@@ -31,7 +31,7 @@ pub(crate) struct CoordActor<P: TakePolicy, D: Disk> {
 /// What a line of the coordinator is made of: the command with its answer, the messages that it sends, and the stamp of the message that it
 /// takes, 0 without one.
 #[derive(Drop)]
-pub(crate) struct CoordTold {
+pub(crate) struct CoordLineParts {
     pub(crate) command: Command,
     pub(crate) answer: Answer,
     pub(crate) sends: Sends,

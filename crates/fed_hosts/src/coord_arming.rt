@@ -15,7 +15,7 @@ ghost use Rattle.host_laws.specs.Plans.{most_lines};
 ghost use Rattle.host_laws.specs.Turns.{is_trip};
 
 use crate::arming::stop_at;
-use crate::coord_actor::{CoordActor, CoordTold};
+use crate::coord_actor::{CoordActor, CoordLineParts};
 use crate::posting::flush_all;
 use crate::site_actor::MOST_LINES;
 use fed_rules::Command;
@@ -53,7 +53,7 @@ impl<P: TakePolicy, D: Disk> CoordActor<P, D> {
     }
 
     /// Adds a line, arms the next scripted stop behind it, and moves what is sent on its way.
-    pub(crate) fn carry(&mut self, told: CoordTold)
+    pub(crate) fn carry(&mut self, told: CoordLineParts)
         requires room { HasCoordRoom self.old }
         requires ready { IsCoordReady self.old told }
         requires last { self.old.last + 2 < 2 ^ 64 }

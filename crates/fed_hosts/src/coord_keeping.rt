@@ -3,7 +3,7 @@ ghost use Rattle.std.specs.Prelude.{◌≡◌, ◌+◌, ◌<◌, ◌^◌, [], �
 ghost use Rattle.std.specs.Vec.{vec_len, vec_capacity};
 ghost use Rattle.fed_hosts.specs.CoordRooms.{HasCoordAdded, HasCoordLineRoom, IsBesideCoord, IsCoordReady};
 
-use crate::coord_actor::{CoordActor, CoordTold};
+use crate::coord_actor::{CoordActor, CoordLineParts};
 use crate::keeping::later;
 use crate::posting::post_all;
 use fed_rules::{Answer, Command, Line, Places, Stamped};
@@ -13,14 +13,14 @@ use journal_disk::Disk;
 impl<P: TakePolicy, D: Disk> CoordActor<P, D> {
     /// Keeps a line with the next stamp, behind the last one and that of the message that it takes (Lamport 1978), and offers what it
     /// sends to each site, as an envelope with the line's stamp and with the number of the message among those that were sent there.
-    pub(crate) fn keep(&mut self, told: CoordTold)
+    pub(crate) fn keep(&mut self, told: CoordLineParts)
         requires ready { IsCoordReady self.old told }
         ensures added { HasCoordAdded self.old self.new told }
         ensures beside { IsBesideCoord self.old self.new }
         ensures room { vec_len self.new.lines ≡ vec_len self.old.lines + 1 }
         ensures capacity { vec_capacity self.new.lines ≡ vec_capacity self.old.lines }
     {
-        let CoordTold {
+        let CoordLineParts {
             command,
             answer,
             sends,

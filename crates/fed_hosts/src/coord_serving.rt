@@ -6,7 +6,7 @@ ghost use Rattle.fed_hosts.specs.CoordServing.{HasCoordFailed, IsLastAttempt, Is
 ghost use Rattle.fed_hosts.specs.CoordViews.{HasCoordServed, IsKnown, IsUnknown, coord_view_of};
 
 use crate::answers::again;
-use crate::coord_actor::{CoordActor, CoordTold};
+use crate::coord_actor::{CoordActor, CoordLineParts};
 use crate::coord_asks::{CoordCall, ask_of, command};
 use crate::plans::Plan;
 use crate::site_actor::{MOST_BEGUN, MOST_LINES};
@@ -79,7 +79,7 @@ impl<P: TakePolicy, D: Disk> CoordActor<P, D> {
         }
         let step = self.manager.ask(self.alloc, &mut self.disk, ask_of(call))?;
         let copy = again(&step.answer);
-        self.carry(CoordTold {
+        self.carry(CoordLineParts {
             command: command(call),
             answer: step.answer,
             sends: step.sends,

@@ -9,7 +9,7 @@ ghost use Rattle.host_laws.specs.Plans.{most_lines};
 ghost use Rattle.fed_hosts.specs.Ports.{empties_of};
 ghost use Rattle.fed_hosts.specs.Rounds.{ArePutBack, HasArrived};
 
-use crate::coord_actor::{CoordActor, CoordTold};
+use crate::coord_actor::{CoordActor, CoordLineParts};
 use crate::plans::Plan;
 use crate::rounds::{Arrived, next_arrived};
 use crate::site_actor::MOST_LINES;
@@ -67,7 +67,7 @@ impl<P: TakePolicy, D: Disk> CoordActor<P, D> {
         let step = self
             .manager
             .ask(self.alloc, &mut self.disk, CoordAsk::Back)?;
-        self.carry(CoordTold {
+        self.carry(CoordLineParts {
             command: Command::Back { actor: 0 },
             answer: step.answer,
             sends: step.sends,
@@ -105,7 +105,7 @@ impl<P: TakePolicy, D: Disk> CoordActor<P, D> {
         };
         match self.manager.ask(self.alloc, &mut self.disk, ask) {
             Ok(step) => {
-                self.carry(CoordTold {
+                self.carry(CoordLineParts {
                     command: Command::Take {
                         site,
                         place: envelope.index,

@@ -6,7 +6,7 @@ ghost use Rattle.scripted_link.specs.Outlets.{offered};
 ghost use Rattle.host_laws.specs.Lines.{packets_at};
 ghost use Rattle.fed_hosts.specs.Rooms.{HasAdded, IsBeside, IsReady, IsSendReady};
 
-use crate::site_actor::{SiteActor, Told};
+use crate::site_actor::{LineParts, SiteActor};
 use engine_contract::LocalEngine;
 use fed_messages::{Envelope, encode_from};
 use fed_rules::{FromSite, Line, Place, Places, Stamped};
@@ -52,14 +52,14 @@ impl<E: LocalEngine, D: Disk> SiteActor<E, D> {
 
     /// Keeps a line with the next stamp, behind the last one and that of the message that it takes (Lamport 1978), and offers what it
     /// sends, as an envelope with the line's stamp and with the number of the message among those that were sent.
-    pub(crate) fn keep(&mut self, told: Told)
+    pub(crate) fn keep(&mut self, told: LineParts)
         requires ready { IsReady self.old told }
         ensures added { HasAdded self.old self.new told }
         ensures beside { IsBeside self.old self.new }
         ensures room { vec_len self.new.lines ≡ vec_len self.old.lines + 1 }
         ensures capacity { vec_capacity self.new.lines ≡ vec_capacity self.old.lines }
     {
-        let Told {
+        let LineParts {
             command,
             answer,
             send,

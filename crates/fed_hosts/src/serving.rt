@@ -9,7 +9,7 @@ ghost use Rattle.fed_hosts.specs.Views.{HasServed, view_of};
 
 use crate::answers::again;
 use crate::plans::Plan;
-use crate::site_actor::{MOST_BEGUN, MOST_LINES, SiteActor, Told};
+use crate::site_actor::{MOST_BEGUN, MOST_LINES, SiteActor, LineParts};
 use crate::verbs::{Verb, command, is_begin, site_ask};
 use engine_contract::LocalEngine;
 use fed_rules::Answer;
@@ -60,7 +60,7 @@ impl<E: LocalEngine, D: Disk> SiteActor<E, D> {
         let ask = site_ask(verb, tx);
         let step = self.dbms.ask(self.alloc, &mut self.disk, ask)?;
         let copy = again(&step.answer);
-        self.carry(Told {
+        self.carry(LineParts {
             command: command(verb, tx),
             answer: step.answer,
             send: None,

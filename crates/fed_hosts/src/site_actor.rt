@@ -35,7 +35,7 @@ pub(crate) struct SiteActor<E: LocalEngine, D: Disk> {
 /// What a line is made of: the command with its answer, the message that it sends, and the stamp of the message that it takes, 0 without
 /// one.
 #[derive(Drop)]
-pub(crate) struct Told {
+pub(crate) struct LineParts {
     pub(crate) command: Command,
     pub(crate) answer: Answer,
     pub(crate) send: Option<FromSite>,

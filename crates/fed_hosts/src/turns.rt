@@ -12,7 +12,7 @@ ghost use Rattle.fed_hosts.specs.Turns.{HasTurned, Inquires, Restarts, Takes};
 ghost use Rattle.fed_hosts.specs.Views.{view_of};
 
 use crate::plans::Plan;
-use crate::site_actor::{MOST_LINES, SiteActor, Told};
+use crate::site_actor::{MOST_LINES, SiteActor, LineParts};
 use engine_contract::LocalEngine;
 use fed_messages::{Packet, decode_to};
 use fed_rules::{Command, ToSite};
@@ -77,7 +77,7 @@ impl<E: LocalEngine, D: Disk> SiteActor<E, D> {
         ensures same { IfErr result (λ _. view_of self.new false ≡ view_of self.old false) }
     {
         let step = self.dbms.ask(self.alloc, &mut self.disk, SiteAsk::Back)?;
-        self.carry(Told {
+        self.carry(LineParts {
             command: Command::Back {
                 actor: self.ends.site.0,
             },
@@ -115,7 +115,7 @@ impl<E: LocalEngine, D: Disk> SiteActor<E, D> {
         let ask = SiteAsk::Give(envelope.message);
         match self.dbms.ask(self.alloc, &mut self.disk, ask) {
             Ok(step) => {
-                self.carry(Told {
+                self.carry(LineParts {
                     command: Command::Give {
                         site: self.ends.site,
                         place: envelope.index,
@@ -159,7 +159,7 @@ impl<E: LocalEngine, D: Disk> SiteActor<E, D> {
         let ask = SiteAsk::Ask(tid);
         let step = self.dbms.ask(self.alloc, &mut self.disk, ask)?;
         self.idle = 0;
-        self.carry(Told {
+        self.carry(LineParts {
             command: Command::Ask {
                 site: self.ends.site,
                 tid,

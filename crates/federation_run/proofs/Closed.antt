@@ -28,8 +28,8 @@ use Rattle.fed_hosts.specs.declared.coord_parts.CoordParts.{CoordParts}
 use Rattle.fed_hosts.specs.declared.parts.SiteParts.{SiteParts}
 use Rattle.fed_hosts.specs.CoordHosts.{IsHeldCoord}
 use Rattle.fed_hosts.specs.Hosts.{IsHeld}
-use Rattle.federation_run.specs.declared.crews.Berth.{Berth}
-use Rattle.federation_run.specs.declared.crews.Crew.{Crew}
+use Rattle.federation_run.specs.declared.wired.WiredActors.{WiredActors}
+use Rattle.federation_run.specs.declared.wired.WiredSite.{WiredSite}
 use Rattle.federation_run.specs.declared.errors.RunErr.{RunErr}
 use Rattle.federation_run.specs.declared.errors.RunErr.TheVariants as Err_is
 use Rattle.federation_run.specs.declared.lefts.CoordLeft.{CoordLeft}
@@ -37,7 +37,7 @@ use Rattle.federation_run.specs.declared.lefts.Left.{Left}
 use Rattle.federation_run.specs.declared.lefts.SiteLeft.{SiteLeft}
 use Rattle.federation_run.specs.declared.seats.Seat.{Seat}
 use Rattle.federation_run.specs.declared.seats.Seat.TheVariants.{Hosted, Idle}
-use Rattle.federation_run.specs.Crews.{IsCrew}
+use Rattle.federation_run.specs.Wired.{AreWiredActors}
 use Rattle.federation_run.specs.Lefts.{AreBack, AreHeldAt, HasLeft, HasRisenFrom, IsIdle, IsLeft, coord_parts_of, itself, parts_of}
 use Rattle.federation_run.specs.Plans.{coord_plan, site_plans, wires_of}
 use Rattle.federation_run.specs.Running.{EndsBadly, HasRun, StopsBadly}
@@ -92,19 +92,19 @@ held_coord_seen tells seen plan rings parts left manager lines ports failed h =
     })
 
 -- the disk of a site that isn't declared is back
-pub idle_back : {D N : Type 0} (tells : Bool) (seen : D → Seen) (scenario : Scenario) (crew : Crew) (old : List D) (new : List Seen) (seats : List (Seat D N)) → IsCrew tells (map seen old) scenario crew → length old ≡ 9 → length new ≡ 9
-    → AreSeats crew.berths.items old seats → AreBack seen seats new → (site : SiteId) → 1 ≤ site.0 → home_of scenario site ≡ None → slice_get new site.0 ≡ slice_get (map seen old) site.0
-idle_back {D} {N} tells seen scenario crew old new seats c nine nine_new s back site least none = by_range (nat_le site.0 8) refl
+pub idle_back : {D N : Type 0} (tells : Bool) (seen : D → Seen) (scenario : Scenario) (actors : WiredActors) (old : List D) (new : List Seen) (seats : List (Seat D N)) → AreWiredActors tells (map seen old) scenario actors → length old ≡ 9 → length new ≡ 9
+    → AreSeats actors.wired_sites.items old seats → AreBack seen seats new → (site : SiteId) → 1 ≤ site.0 → home_of scenario site ≡ None → slice_get new site.0 ≡ slice_get (map seen old) site.0
+idle_back {D} {N} tells seen scenario actors old new seats c nine nine_new s back site least none = by_range (nat_le site.0 8) refl
   where
     index : ℕ
     index = 8 - site.0
 
-    of_seat : site.0 ≤ 8 → (seat : Seat D N) → slice_get seats index ≡ Some seat → (disk : D) → slice_get old site.0 ≡ Some disk → IsSeat site.0 crew.berths.items disk seat → slice_get new site.0 ≡ slice_get (map seen old) site.0
+    of_seat : site.0 ≤ 8 → (seat : Seat D N) → slice_get seats index ≡ Some seat → (disk : D) → slice_get old site.0 ≡ Some disk → IsSeat site.0 actors.wired_sites.items disk seat → slice_get new site.0 ≡ slice_get (map seen old) site.0
     of_seat most (Hosted host) at disk there has =
-        let z = has_item (sites scenario) crew.berths.items has.place has.berth (sym c.berths_count) has.at in
-        let port = has_item crew.ports.items (sites scenario) has.place z.0 c.ports_count z.1 in
+        let z = has_item (sites scenario) actors.wired_sites.items has.place has.wired (sym c.wired_count) has.at in
+        let port = has_item actors.ports.items (sites scenario) has.place z.0 c.ports_count z.1 in
         let home = home_at_place scenario z.0 has.place z.1 in
-        let named : z.0 ≡ site = sym (c.ringed has.place z.0 has.berth port.0 z.1 has.at port.1).at_site ∙ ap (λ (n : ℕ). let q : SiteId = record { 0 = n } in q) has.site in
+        let named : z.0 ≡ site = sym (c.ringed has.place z.0 has.wired port.0 z.1 has.at port.1).at_site ∙ ap (λ (n : ℕ). let q : SiteId = record { 0 = n } in q) has.site in
         let both : None ≡ Some home.0 = sym none ∙ (ap (λ (q : SiteId). home_of scenario q) (sym named) ∙ home.1) in
         cc
     of_seat most (Idle other) at disk there same =
@@ -119,7 +119,7 @@ idle_back {D} {N} tells seen scenario crew old new seats c nine nine_new s back 
         let seat = slice_get-there seats index (let e = s.count in omega (arith, e, least)) in
         let disk = slice_get-there old site.0 (omega (arith, nine, most)) in
         let number : 8 - index ≡ site.0 = omega (arith, most) in
-        of_seat most seat.0 seat.1 disk.0 disk.1 (subst (λ (n : ℕ). IsSeat n crew.berths.items disk.0 seat.0) number (s.each index seat.0 disk.0 seat.1 (subst (λ (n : ℕ). slice_get old n ≡ Some disk.0) (sym number) disk.1)))
+        of_seat most seat.0 seat.1 disk.0 disk.1 (subst (λ (n : ℕ). IsSeat n actors.wired_sites.items disk.0 seat.0) number (s.each index seat.0 disk.0 seat.1 (subst (λ (n : ℕ). slice_get old n ≡ Some disk.0) (sym number) disk.1)))
 
 -- what is left of a site's host that was taken apart
 abbrev left_of : {D : Type 0} → ℕ → SiteParts AnyEngine D → SiteLeft
@@ -151,12 +151,12 @@ pub alone_first : {D : Type 0} (none all : List D) (disk : D) → length none �
 alone_first {D} none all disk empty is =
     subst (λ (n : ℕ). slice_get all n ≡ Some disk) empty (subst (λ (ds : List D). slice_get ds (length none) ≡ Some disk) (sym is) (at_end none disk))
 
--- what the hosts of a crew leave, from the parts of the coordinator's and what the seats gave
-pub has_left : {D N : Type 0} (tells : Bool) (seen : D → Seen) (scenario : Scenario) (plans : List SitePlan) (plan : CoordPlan) (rings : List Wire) (crew : Crew) (old none one new : List D) (seats : List (Seat D N)) (parts : CoordParts AnyPolicy D) (lefts : Vec SiteLeft)
-    → IsCrew tells (map seen old) scenario crew → length old ≡ 9 → length none ≡ 0 → one ≡ none ++ parts.disk ∷ [] → length new ≡ 9 → slice_get (map seen new) 0 ≡ slice_get (map seen one) 0
-    → IsHeldCoord policy_is tells seen plan rings parts → AreHeldAt tells plans rings (map seen new) lefts.items → AreSeats crew.berths.items old seats → AreBack seen seats (map seen new)
+-- what the hosts of the wired actors leave, from the parts of the coordinator's and what the seats gave
+pub has_left : {D N : Type 0} (tells : Bool) (seen : D → Seen) (scenario : Scenario) (plans : List SitePlan) (plan : CoordPlan) (rings : List Wire) (actors : WiredActors) (old none one new : List D) (seats : List (Seat D N)) (parts : CoordParts AnyPolicy D) (lefts : Vec SiteLeft)
+    → AreWiredActors tells (map seen old) scenario actors → length old ≡ 9 → length none ≡ 0 → one ≡ none ++ parts.disk ∷ [] → length new ≡ 9 → slice_get (map seen new) 0 ≡ slice_get (map seen one) 0
+    → IsHeldCoord policy_is tells seen plan rings parts → AreHeldAt tells plans rings (map seen new) lefts.items → AreSeats actors.wired_sites.items old seats → AreBack seen seats (map seen new)
     → HasLeft tells scenario plans plan rings (map seen old) (map seen new) (record { coordinator = coord_left_of parts; sites = lefts })
-has_left tells seen scenario plans plan rings crew old none one new seats parts lefts c nine empty one_is nine_new first held held_sites seated back = record {
+has_left tells seen scenario plans plan rings actors old none one new seats parts lefts c nine empty one_is nine_new first held held_sites seated back = record {
   nine = length-map new seen ∙ nine_new;
   coordinator = record {
     disk = seen parts.disk;
@@ -164,15 +164,15 @@ has_left tells seen scenario plans plan rings crew old none one new seats parts 
     held = held_coord_seen tells seen plan rings parts (coord_left_of parts) refl refl refl refl held;
   };
   sites_are = held_sites;
-  others = idle_back tells seen scenario crew old (map seen new) seats c nine (length-map new seen ∙ nine_new) seated back;
+  others = idle_back tells seen scenario actors old (map seen new) seats c nine (length-map new seen ∙ nine_new) seated back;
 }
 
--- what the hosts of a crew left is what is settled
-pub is_left : (tells : Bool) (scenario : Scenario) (old new : List Seen) (crew : Crew) (left : Left) → IsCrew tells old scenario crew
-    → HasLeft tells scenario (site_plans scenario (faults_of old)) (coord_plan scenario (faults_of old)) (wires_of crew.ports.items crew.berths.items) old new left → IsLeft tells (faults_of old) new scenario left
-is_left tells scenario old new crew left c h = record {
-  rings = wires_of crew.ports.items crew.berths.items;
-  scripted = scripted tells old scenario crew c (site_plans scenario (faults_of old)) (coord_plan scenario (faults_of old)) (wires_of crew.ports.items crew.berths.items) (record { sites_are = refl; coordinator_is = refl; rings_are = refl });
+-- what the hosts of the wired actors left is what is settled
+pub is_left : (tells : Bool) (scenario : Scenario) (old new : List Seen) (actors : WiredActors) (left : Left) → AreWiredActors tells old scenario actors
+    → HasLeft tells scenario (site_plans scenario (faults_of old)) (coord_plan scenario (faults_of old)) (wires_of actors.ports.items actors.wired_sites.items) old new left → IsLeft tells (faults_of old) new scenario left
+is_left tells scenario old new actors left c h = record {
+  rings = wires_of actors.ports.items actors.wired_sites.items;
+  scripted = scripted tells old scenario actors c (site_plans scenario (faults_of old)) (coord_plan scenario (faults_of old)) (wires_of actors.ports.items actors.wired_sites.items) (record { sites_are = refl; coordinator_is = refl; rings_are = refl });
   counted = length-map old (λ (d : Seen). d.faults) ∙ c.others.nine;
   nine = h.nine;
   coordinator = h.coordinator;

@@ -4,7 +4,7 @@ pub mod Homes
 pub mod Untrimmed
 pub mod Unchecked
 pub mod FatesRise
-pub mod Moored
+pub mod WiredSites
 pub mod Opened
 pub mod Seated
 pub mod Closed

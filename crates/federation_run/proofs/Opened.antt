@@ -1,4 +1,4 @@
--- The hosts of a crew may begin with their disks.
+-- The hosts of the wired actors may begin with their disks.
 use Rattle.std.proofs.Common.{◌≡◌, ℕ, zero, suc, ◌+◌, ◌*◌, ◌<◌, ◌≤◌, ◌==◌, ◌&&◌, Bool, true, false, cond, Option, Some, None, List, [], ◌∷◌, length, map, slice_get, refl, sym, ap, ◌∙◌, subst, eqb-true, arith}
 use Rattle.std.specs.Prelude.{nat_le, option_map}
 use Rattle.std.proofs.lemmas.Bool.{leb-true, and_parts}
@@ -35,9 +35,9 @@ use Rattle.fed_hosts.specs.CoordHosts.{CanOpenCoord}
 use Rattle.fed_hosts.specs.CoordKeeps.{IsPortPlanned}
 use Rattle.fed_hosts.specs.Hosts.{CanOpen}
 use Rattle.fed_hosts.specs.Keeps.{IsStop}
-use Rattle.federation_run.specs.declared.crews.Berth.{Berth}
-use Rattle.federation_run.specs.declared.crews.Crew.{Crew}
-use Rattle.federation_run.specs.Crews.{AreRinged, IsCrew, IsStood}
+use Rattle.federation_run.specs.declared.wired.WiredActors.{WiredActors}
+use Rattle.federation_run.specs.declared.wired.WiredSite.{WiredSite}
+use Rattle.federation_run.specs.Wired.{AreRinged, AreWiredActors, IsStood}
 use Rattle.federation_run.specs.Lefts.{AreScripted}
 use Rattle.federation_run.specs.Plans.{bare_home, coord_plan, count_at, in_turn, site_plan, site_plans, stops_in, wires_of}
 use Rattle.federation_run.specs.Seats.{CanSeatAll, IsNamed}
@@ -61,14 +61,14 @@ second_in_turn f g (z ∷ xs) (w ∷ ys) (suc place) x y at bat =
     subst (λ (n : ℕ). slice_get (in_turn f g (z ∷ xs) (w ∷ ys)) n ≡ Some (g y)) (sym next) (second_in_turn f g xs ys place x y at bat)
 
 -- the ring to a site
-pub wire_to : (ports : List Port) (berths : List Berth) (place : ℕ) (port : Port) (berth : Berth) → slice_get ports place ≡ Some port → slice_get berths place ≡ Some berth
-    → slice_get (wires_of ports berths) (2 * place) ≡ Some (outlet_wire port.ends.outlet)
-wire_to ports berths place port berth at bat = first_in_turn (λ (p : Port). outlet_wire p.ends.outlet) (λ (b : Berth). outlet_wire b.ends.outlet) ports berths place port berth at bat
+pub wire_to : (ports : List Port) (wired_sites : List WiredSite) (place : ℕ) (port : Port) (wired : WiredSite) → slice_get ports place ≡ Some port → slice_get wired_sites place ≡ Some wired
+    → slice_get (wires_of ports wired_sites) (2 * place) ≡ Some (outlet_wire port.ends.outlet)
+wire_to ports wired_sites place port wired at bat = first_in_turn (λ (p : Port). outlet_wire p.ends.outlet) (λ (b : WiredSite). outlet_wire b.ends.outlet) ports wired_sites place port wired at bat
 
 -- and the one from it
-pub wire_from : (ports : List Port) (berths : List Berth) (place : ℕ) (port : Port) (berth : Berth) → slice_get ports place ≡ Some port → slice_get berths place ≡ Some berth
-    → slice_get (wires_of ports berths) (2 * place + 1) ≡ Some (outlet_wire berth.ends.outlet)
-wire_from ports berths place port berth at bat = second_in_turn (λ (p : Port). outlet_wire p.ends.outlet) (λ (b : Berth). outlet_wire b.ends.outlet) ports berths place port berth at bat
+pub wire_from : (ports : List Port) (wired_sites : List WiredSite) (place : ℕ) (port : Port) (wired : WiredSite) → slice_get ports place ≡ Some port → slice_get wired_sites place ≡ Some wired
+    → slice_get (wires_of ports wired_sites) (2 * place + 1) ≡ Some (outlet_wire wired.ends.outlet)
+wire_from ports wired_sites place port wired at bat = second_in_turn (λ (p : Port). outlet_wire p.ends.outlet) (λ (b : WiredSite). outlet_wire b.ends.outlet) ports wired_sites place port wired at bat
 
 -- ---- scripted stops
 
@@ -98,27 +98,27 @@ stops_are scenario actor whole = stop_lines scenario.sites scenario.stops actor 
 pub counted : (disks : List Seen) (number : ℕ) (disk : Seen) → slice_get disks number ≡ Some disk → disk.faults ≡ count_at (faults_of disks) number
 counted disks number disk at = sym (get_or_from_slice_get (faults_of disks) number disk.faults 0 (mapped_at (λ (d : Seen). d.faults) disks number disk at))
 
-module _ (tells : Bool) (disks : List Seen) (scenario : Scenario) (whole : IsScenario scenario) (crew : Crew) (c : IsCrew tells disks scenario crew)
-    (plans : List SitePlan) (plan : CoordPlan) (rings : List Wire) (named : IsNamed scenario (faults_of disks) crew plans plan rings) where
+module _ (tells : Bool) (disks : List Seen) (scenario : Scenario) (whole : IsScenario scenario) (actors : WiredActors) (c : AreWiredActors tells disks scenario actors)
+    (plans : List SitePlan) (plan : CoordPlan) (rings : List Wire) (named : IsNamed scenario (faults_of disks) actors plans plan rings) where
   abbrev counts : List ℕ
   counts = faults_of disks
 
-  -- the host of each berth may begin
-  pub can_seat_all : CanSeatAll tells plans rings disks crew.berths.items
-  can_seat_all place berth disk bat disk_at = record {
+  -- the host of each wired site may begin
+  pub can_seat_all : CanSeatAll tells plans rings disks actors.wired_sites.items
+  can_seat_all place wired disk bat disk_at = record {
     plan = site_plan scenario counts site;
     planned = record {
       place = place;
       at = subst (λ (ps : List SitePlan). slice_get ps place ≡ Some (site_plan scenario counts site)) (sym named.sites_are) (mapped_at (site_plan scenario counts) (sites scenario) place site there.1);
       site = r.at_site ∙ (sym s.is ∙ ap (λ (h : Home). h.site) (sym home_is));
-      to = subst (λ (ws : List Wire). option_map (λ (wire : Wire). wire.ring) (slice_get ws (2 * place)) ≡ Some (inlet_ring berth.ends.inlet)) (sym named.rings_are)
-          (ap (option_map (λ (wire : Wire). wire.ring)) (wire_to crew.ports.items crew.berths.items place port berth port_at bat) ∙ ap (λ (k : Ring). Some k) (sym r.to));
-      from = subst (λ (ws : List Wire). slice_get ws (2 * place + 1) ≡ Some (outlet_wire berth.ends.outlet)) (sym named.rings_are) (wire_from crew.ports.items crew.berths.items place port berth port_at bat);
+      to = subst (λ (ws : List Wire). option_map (λ (wire : Wire). wire.ring) (slice_get ws (2 * place)) ≡ Some (inlet_ring wired.ends.inlet)) (sym named.rings_are)
+          (ap (option_map (λ (wire : Wire). wire.ring)) (wire_to actors.ports.items actors.wired_sites.items place port wired port_at bat) ∙ ap (λ (k : Ring). Some k) (sym r.to));
+      from = subst (λ (ws : List Wire). slice_get ws (2 * place + 1) ≡ Some (outlet_wire wired.ends.outlet)) (sym named.rings_are) (wire_from actors.ports.items actors.wired_sites.items place port wired port_at bat);
       stops = subst (λ (n : ℕ). Each (IsStop n) (stops_in scenario site.0)) (ap (λ (z : SiteId). z.0) (sym s.is ∙ ap (λ (h : Home). h.site) (sym home_is))) (stops_are scenario site.0 whole);
     };
     stops_are = b.0;
-    stood = subst (λ (h : Home). Dbms.Stands Engines.Stands tells berth.dbms disk h (own_programs site scenario.transactions) []) (sym home_is)
-        (subst (λ (d : Seen). Dbms.Stands Engines.Stands tells berth.dbms d s.home (own_programs site scenario.transactions) []) own_disk s.stood.holds);
+    stood = subst (λ (h : Home). Dbms.Stands Engines.Stands tells wired.dbms disk h (own_programs site scenario.transactions) []) (sym home_is)
+        (subst (λ (d : Seen). Dbms.Stands Engines.Stands tells wired.dbms d s.home (own_programs site scenario.transactions) []) own_disk s.stood.holds);
     faults = counted disks site.0 disk site_disk;
     taken_none = r.taken_none;
     offered_none = r.offered_none;
@@ -126,28 +126,28 @@ module _ (tells : Bool) (disks : List Seen) (scenario : Scenario) (whole : IsSce
   }
     where
       there : (site : SiteId) × (slice_get (sites scenario) place ≡ Some site)
-      there = has_item (sites scenario) crew.berths.items place berth (sym c.berths_count) bat
+      there = has_item (sites scenario) actors.wired_sites.items place wired (sym c.wired_count) bat
 
       site : SiteId
       site = there.0
 
-      port_there : (port : Port) × (slice_get crew.ports.items place ≡ Some port)
-      port_there = has_item crew.ports.items (sites scenario) place site c.ports_count there.1
+      port_there : (port : Port) × (slice_get actors.ports.items place ≡ Some port)
+      port_there = has_item actors.ports.items (sites scenario) place site c.ports_count there.1
 
       port : Port
       port = port_there.0
 
-      port_at : slice_get crew.ports.items place ≡ Some port
+      port_at : slice_get actors.ports.items place ≡ Some port
       port_at = port_there.1
 
-      b : (berth.stops.items ≡ stops_in scenario site.0) × IsStood tells disks scenario site berth.dbms
-      b = c.berth place site berth there.1 bat
+      b : (wired.stops.items ≡ stops_in scenario site.0) × IsStood tells disks scenario site wired.dbms
+      b = c.wired place site wired there.1 bat
 
-      s : IsStood tells disks scenario site berth.dbms
+      s : IsStood tells disks scenario site wired.dbms
       s = b.1
 
-      r : AreRinged scenario site berth.ends port
-      r = c.ringed place site berth port there.1 bat port_at
+      r : AreRinged scenario site wired.ends port
+      r = c.ringed place site wired port there.1 bat port_at
 
       home_is : (site_plan scenario counts site).home ≡ s.home
       home_is = ap (λ (o : Option Home). or_else o (bare_home site)) s.declared
@@ -158,53 +158,53 @@ module _ (tells : Bool) (disks : List Seen) (scenario : Scenario) (whole : IsSce
       own_disk : s.stood.disk ≡ disk
       own_disk = slice_get-one disks site.0 s.stood.disk disk (subst (λ (z : SiteId). slice_get disks z.0 ≡ Some s.stood.disk) s.is s.stood.own) site_disk
 
-  port_planned : (place : ℕ) (port : Port) → slice_get crew.ports.items place ≡ Some port → IsPortPlanned rings plan place port
+  port_planned : (place : ℕ) (port : Port) → slice_get actors.ports.items place ≡ Some port → IsPortPlanned rings plan place port
   port_planned place port at =
-      let there = has_item (sites scenario) crew.ports.items place port (sym c.ports_count) at in
+      let there = has_item (sites scenario) actors.ports.items place port (sym c.ports_count) at in
       let member = made_of (λ (m : Participant). m.site) (protocols scenario) place there.0 there.1 in
-      let berth = has_item crew.berths.items (sites scenario) place there.0 c.berths_count there.1 in
-      let r = c.ringed place there.0 berth.0 port there.1 berth.1 at in
+      let wired = has_item actors.wired_sites.items (sites scenario) place there.0 c.wired_count there.1 in
+      let r = c.ringed place there.0 wired.0 port there.1 wired.1 at in
       record {
         member = member.0;
         at = subst (λ (p : CoordPlan). slice_get p.terms.protocols place ≡ Some member.0) (sym named.coordinator_is) member.1;
         site = r.at_coordinator ∙ sym member.2;
-        to = subst (λ (ws : List Wire). slice_get ws (2 * place) ≡ Some (outlet_wire port.ends.outlet)) (sym named.rings_are) (wire_to crew.ports.items crew.berths.items place port berth.0 at berth.1);
+        to = subst (λ (ws : List Wire). slice_get ws (2 * place) ≡ Some (outlet_wire port.ends.outlet)) (sym named.rings_are) (wire_to actors.ports.items actors.wired_sites.items place port wired.0 at wired.1);
         from = subst (λ (ws : List Wire). option_map (λ (wire : Wire). wire.ring) (slice_get ws (2 * place + 1)) ≡ Some (inlet_ring port.ends.inlet)) (sym named.rings_are)
-            (ap (option_map (λ (wire : Wire). wire.ring)) (wire_from crew.ports.items crew.berths.items place port berth.0 at berth.1) ∙ ap (λ (k : Ring). Some k) (sym r.from));
+            (ap (option_map (λ (wire : Wire). wire.ring)) (wire_from actors.ports.items actors.wired_sites.items place port wired.0 at wired.1) ∙ ap (λ (k : Ring). Some k) (sym r.from));
       }
 
   -- so may the coordinator's
-  pub can_open_coord : (first : Seen) → slice_get disks 0 ≡ Some first → CanOpenCoord policy_is tells plan rings crew.manager first crew.stops.items crew.ports.items
-  can_open_coord first at = subst (λ (p : CoordPlan). CanOpenCoord policy_is tells p rings crew.manager first crew.stops.items crew.ports.items) (sym named.coordinator_is) (record {
+  pub can_open_coord : (first : Seen) → slice_get disks 0 ≡ Some first → CanOpenCoord policy_is tells plan rings actors.manager first actors.stops.items actors.ports.items
+  can_open_coord first at = subst (λ (p : CoordPlan). CanOpenCoord policy_is tells p rings actors.manager first actors.stops.items actors.ports.items) (sym named.coordinator_is) (record {
     planned = record {
       count = c.ports_count ∙ length-map (protocols scenario) (λ (m : Participant). m.site);
       each = λ place port pat. subst (λ (p : CoordPlan). IsPortPlanned rings p place port) named.coordinator_is (port_planned place port pat);
       stops = stops_are scenario 0 whole;
     };
     stops_are = c.stops;
-    stood = subst (λ (d : Seen). Manager.Stands policy_is tells crew.manager d (terms_of scenario) (global_program scenario) []) (slice_get-one disks 0 c.manager.disk first c.manager.own at) c.manager.holds;
+    stood = subst (λ (d : Seen). Manager.Stands policy_is tells actors.manager d (terms_of scenario) (global_program scenario) []) (slice_get-one disks 0 c.manager.disk first c.manager.own at) c.manager.holds;
     faults = counted disks 0 first at;
-    new = λ place port pat. (let there = has_item (sites scenario) crew.ports.items place port (sym c.ports_count) pat in
-        let berth = has_item crew.berths.items (sites scenario) place there.0 c.berths_count there.1 in
-        (c.ringed place there.0 berth.0 port there.1 berth.1 pat).new);
+    new = λ place port pat. (let there = has_item (sites scenario) actors.ports.items place port (sym c.ports_count) pat in
+        let wired = has_item actors.wired_sites.items (sites scenario) place there.0 c.wired_count there.1 in
+        (c.ringed place there.0 wired.0 port there.1 wired.1 pat).new);
   })
 
-module _ (tells : Bool) (disks : List Seen) (scenario : Scenario) (crew : Crew) (c : IsCrew tells disks scenario crew)
-    (plans : List SitePlan) (plan : CoordPlan) (rings : List Wire) (named : IsNamed scenario (faults_of disks) crew plans plan rings) where
+module _ (tells : Bool) (disks : List Seen) (scenario : Scenario) (actors : WiredActors) (c : AreWiredActors tells disks scenario actors)
+    (plans : List SitePlan) (plan : CoordPlan) (rings : List Wire) (named : IsNamed scenario (faults_of disks) actors plans plan rings) where
   -- the rings have the scripts of the scenario
   pub scripted : AreScripted scenario rings
   scripted = record { to = to; from = from }
     where
       to : (place : ℕ) (site : SiteId) (wire : Wire) → slice_get (sites scenario) place ≡ Some site → slice_get rings (2 * place) ≡ Some wire → wire.script ≡ script_of scenario true site
       to place site wire there at =
-          let port = has_item crew.ports.items (sites scenario) place site c.ports_count there in
-          let berth = has_item crew.berths.items (sites scenario) place site c.berths_count there in
-          let made = subst (λ (ws : List Wire). slice_get ws (2 * place) ≡ Some (outlet_wire port.0.ends.outlet)) (sym named.rings_are) (wire_to crew.ports.items crew.berths.items place port.0 berth.0 port.1 berth.1) in
-          ap (λ (w : Wire). w.script) (slice_get-one rings (2 * place) wire (outlet_wire port.0.ends.outlet) at made) ∙ (c.ringed place site berth.0 port.0 there berth.1 port.1).to_script
+          let port = has_item actors.ports.items (sites scenario) place site c.ports_count there in
+          let wired = has_item actors.wired_sites.items (sites scenario) place site c.wired_count there in
+          let made = subst (λ (ws : List Wire). slice_get ws (2 * place) ≡ Some (outlet_wire port.0.ends.outlet)) (sym named.rings_are) (wire_to actors.ports.items actors.wired_sites.items place port.0 wired.0 port.1 wired.1) in
+          ap (λ (w : Wire). w.script) (slice_get-one rings (2 * place) wire (outlet_wire port.0.ends.outlet) at made) ∙ (c.ringed place site wired.0 port.0 there wired.1 port.1).to_script
 
       from : (place : ℕ) (site : SiteId) (wire : Wire) → slice_get (sites scenario) place ≡ Some site → slice_get rings (2 * place + 1) ≡ Some wire → wire.script ≡ script_of scenario false site
       from place site wire there at =
-          let port = has_item crew.ports.items (sites scenario) place site c.ports_count there in
-          let berth = has_item crew.berths.items (sites scenario) place site c.berths_count there in
-          let made = subst (λ (ws : List Wire). slice_get ws (2 * place + 1) ≡ Some (outlet_wire berth.0.ends.outlet)) (sym named.rings_are) (wire_from crew.ports.items crew.berths.items place port.0 berth.0 port.1 berth.1) in
-          ap (λ (w : Wire). w.script) (slice_get-one rings (2 * place + 1) wire (outlet_wire berth.0.ends.outlet) at made) ∙ (c.ringed place site berth.0 port.0 there berth.1 port.1).from_script
+          let port = has_item actors.ports.items (sites scenario) place site c.ports_count there in
+          let wired = has_item actors.wired_sites.items (sites scenario) place site c.wired_count there in
+          let made = subst (λ (ws : List Wire). slice_get ws (2 * place + 1) ≡ Some (outlet_wire wired.0.ends.outlet)) (sym named.rings_are) (wire_from actors.ports.items actors.wired_sites.items place port.0 wired.0 port.1 wired.1) in
+          ap (λ (w : Wire). w.script) (slice_get-one rings (2 * place + 1) wire (outlet_wire wired.0.ends.outlet) at made) ∙ (c.ringed place site wired.0 port.0 there wired.1 port.1).from_script

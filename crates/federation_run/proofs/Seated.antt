@@ -12,12 +12,12 @@ use Rattle.scripted_link.specs.Rings.{Wire}
 use Rattle.fed_world.proofs.SeenDisks.{mapped_at}
 use Rattle.host_laws.specs.Plans.{SitePlan}
 use Rattle.fed_hosts.specs.Hosts.{CanOpen}
-use Rattle.federation_run.specs.declared.crews.Berth.{Berth}
+use Rattle.federation_run.specs.declared.wired.WiredSite.{WiredSite}
 use Rattle.federation_run.specs.declared.lefts.SiteLeft.{SiteLeft}
 use Rattle.federation_run.specs.declared.seats.Seat.{Seat}
 use Rattle.federation_run.specs.declared.seats.Seat.TheVariants.{Hosted, Idle}
 use Rattle.federation_run.specs.Lefts.{AreBack, AreHeldAt, HasRisenFrom, IsHeldAt, IsTakenOut}
-use Rattle.federation_run.specs.Seats.{AreSeats, CanSeat, CanSeatAll, HasBerth, IsLastBerth, IsSeat}
+use Rattle.federation_run.specs.Seats.{AreSeats, CanSeat, CanSeatAll, HasWired, IsLastWired, IsSeat}
 use Rattle.federation_run.proofs.Places.{at_end, before_or_last, of_prefix}
 
 -- the last item of a beginning of a list
@@ -42,38 +42,38 @@ last_is {A} old new x y out at =
     slice_get-one old (length new) x y (subst (λ (zs : List A). slice_get zs (length new) ≡ Some x) (sym out) (at_end new x)) (subst (λ (n : ℕ). slice_get old n ≡ Some y) place at)
 
 -- so many actors are seated
-pub record AreSeatedTo {D N : Type 0} (berths_then : List Berth) (disks_then : List D) (berths : List Berth) (disks : List D) (seats : List (Seat D N)) : Type 0 where
+pub record AreSeatedTo {D N : Type 0} (wired_then : List WiredSite) (disks_then : List D) (wired_sites : List WiredSite) (disks : List D) (seats : List (Seat D N)) : Type 0 where
   pub front : IsPrefix disks disks_then
-  pub left : IsPrefix berths berths_then
+  pub left : IsPrefix wired_sites wired_then
   pub count : length seats + length disks ≡ 9
   pub least : 1 ≤ length disks
-  pub each : (index : ℕ) (seat : Seat D N) (disk : D) → slice_get seats index ≡ Some seat → slice_get disks_then (8 - index) ≡ Some disk → IsSeat (8 - index) berths_then disk seat
+  pub each : (index : ℕ) (seat : Seat D N) (disk : D) → slice_get seats index ≡ Some seat → slice_get disks_then (8 - index) ≡ Some disk → IsSeat (8 - index) wired_then disk seat
 
 -- none is seated yet
-pub seated_none : {D N : Type 0} (berths : List Berth) (disks : List D) (seats : List (Seat D N)) → seats ≡ [] → length disks ≡ 9 → AreSeatedTo berths disks berths disks seats
-seated_none {D} {N} berths disks seats none nine = record {
+pub seated_none : {D N : Type 0} (wired_sites : List WiredSite) (disks : List D) (seats : List (Seat D N)) → seats ≡ [] → length disks ≡ 9 → AreSeatedTo wired_sites disks wired_sites disks seats
+seated_none {D} {N} wired_sites disks seats none nine = record {
   front = ([], append-nil disks);
-  left = ([], append-nil berths);
+  left = ([], append-nil wired_sites);
   count = (let e = ap (λ (zs : List (Seat D N)). length zs) none in omega (arith, e, nine));
   least = omega (arith, nine);
   each = λ index seat disk at there. (let nothing : slice_get [] index ≡ Some seat = subst (λ (zs : List (Seat D N)). slice_get zs index ≡ Some seat) none at in cc);
 }
 
--- a berth that is there is one that was there
-seat_then : {D N : Type 0} (actor : ℕ) (berths berths_then : List Berth) (disk : D) (seat : Seat D N) → IsPrefix berths berths_then → IsSeat actor berths disk seat → IsSeat actor berths_then disk seat
-seat_then actor berths berths_then disk (Hosted host) front has = record { place = has.place; berth = has.berth; at = of_prefix berths berths_then has.place has.berth front has.at; site = has.site }
-seat_then actor berths berths_then disk (Idle other) front is = is
+-- a wired site that is there is one that was there
+seat_then : {D N : Type 0} (actor : ℕ) (wired_sites wired_then : List WiredSite) (disk : D) (seat : Seat D N) → IsPrefix wired_sites wired_then → IsSeat actor wired_sites disk seat → IsSeat actor wired_then disk seat
+seat_then actor wired_sites wired_then disk (Hosted host) front has = record { place = has.place; wired = has.wired; at = of_prefix wired_sites wired_then has.place has.wired front has.at; site = has.site }
+seat_then actor wired_sites wired_then disk (Idle other) front is = is
 
 prefix_again : {A : Type 0} (xs ys zs : List A) → IsPrefix xs ys → IsPrefix ys zs → IsPrefix xs zs
 prefix_again {A} xs ys zs one two = (one.0 ++ two.0, sym (append_assoc xs one.0 two.0) ∙ (ap (λ (ws : List A). ws ++ two.0) one.1 ∙ two.1))
 
 -- one more
-pub seated_next : {D N : Type 0} (berths_then : List Berth) (disks_then : List D) (berths berths_now : List Berth) (disks disks_now : List D) (seats seats_now : List (Seat D N)) (disk : D) (seat : Seat D N)
-    → AreSeatedTo berths_then disks_then berths disks seats → 1 < length disks → disks ≡ disks_now ++ disk ∷ [] → IsSeat (length disks_now) berths disk seat → IsPrefix berths_now berths → seats_now ≡ seats ++ seat ∷ []
-    → AreSeatedTo berths_then disks_then berths_now disks_now seats_now
-seated_next {D} {N} berths_then disks_then berths berths_now disks disks_now seats seats_now disk seat s more out own left grown = record {
+pub seated_next : {D N : Type 0} (wired_then : List WiredSite) (disks_then : List D) (wired_sites wired_now : List WiredSite) (disks disks_now : List D) (seats seats_now : List (Seat D N)) (disk : D) (seat : Seat D N)
+    → AreSeatedTo wired_then disks_then wired_sites disks seats → 1 < length disks → disks ≡ disks_now ++ disk ∷ [] → IsSeat (length disks_now) wired_sites disk seat → IsPrefix wired_now wired_sites → seats_now ≡ seats ++ seat ∷ []
+    → AreSeatedTo wired_then disks_then wired_now disks_now seats_now
+seated_next {D} {N} wired_then disks_then wired_sites wired_now disks disks_now seats seats_now disk seat s more out own left grown = record {
   front = last.0;
-  left = prefix_again berths_now berths berths_then left s.left;
+  left = prefix_again wired_now wired_sites wired_then left s.left;
   count = (let a = s.count in let b = longer in let c = seats_longer in omega (arith, a, b, c));
   least = (let b = longer in omega (arith, b, more));
   each = λ index one d at at_disk. by_place index one d at_disk (before_or_last seats seat one index (subst (λ (zs : List (Seat D N)). slice_get zs index ≡ Some one) grown at));
@@ -91,33 +91,33 @@ seated_next {D} {N} berths_then disks_then berths berths_now disks disks_now sea
     actor : 8 - length seats ≡ length disks_now
     actor = (let a = s.count in let b = longer in omega (arith, a, b))
 
-    by_place : (index : ℕ) (one : Seat D N) (d : D) → slice_get disks_then (8 - index) ≡ Some d → (slice_get seats index ≡ Some one) ⊎ ((index ≡ length seats) × (seat ≡ one)) → IsSeat (8 - index) berths_then d one
+    by_place : (index : ℕ) (one : Seat D N) (d : D) → slice_get disks_then (8 - index) ≡ Some d → (slice_get seats index ≡ Some one) ⊎ ((index ≡ length seats) × (seat ≡ one)) → IsSeat (8 - index) wired_then d one
     by_place index one d at_disk (inl before) = s.each index one d before at_disk
     by_place index one d at_disk (inr new) =
         let number : 8 - index ≡ length disks_now = ap (λ (n : ℕ). 8 - n) new.0 ∙ actor in
         let same : disk ≡ d = slice_get-one disks_then (length disks_now) disk d last.1 (subst (λ (n : ℕ). slice_get disks_then n ≡ Some d) number at_disk) in
-        subst (λ (n : ℕ). IsSeat n berths_then d one) (sym number) (subst (λ (z : Seat D N). IsSeat (length disks_now) berths_then d z) new.1
-        (subst (λ (z : D). IsSeat (length disks_now) berths_then z seat) same (seat_then (length disks_now) berths berths_then disk seat s.left own)))
+        subst (λ (n : ℕ). IsSeat n wired_then d one) (sym number) (subst (λ (z : Seat D N). IsSeat (length disks_now) wired_then d z) new.1
+        (subst (λ (z : D). IsSeat (length disks_now) wired_then z seat) same (seat_then (length disks_now) wired_sites wired_then disk seat s.left own)))
 
--- with the disk of its number a host of the berths that are left may begin
-pub can_seat : {D : Type 0} (tells : Bool) (seen : D → Seen) (plans : List SitePlan) (rings : List Wire) (berths_then berths : List Berth) (disks : List D) (actor : ℕ) (disk : D)
-    → CanSeatAll tells plans rings (map seen disks) berths_then → IsPrefix berths berths_then → slice_get disks actor ≡ Some disk → CanSeat tells plans rings actor (seen disk) berths
-can_seat tells seen plans rings berths_then berths disks actor disk all front at place berth bat is =
-    all place berth (seen disk) (of_prefix berths berths_then place berth front bat) (subst (λ (n : ℕ). slice_get (map seen disks) n ≡ Some (seen disk)) (sym is) (mapped_at seen disks actor disk at))
+-- with the disk of its number a host of the wired sites that are left may begin
+pub can_seat : {D : Type 0} (tells : Bool) (seen : D → Seen) (plans : List SitePlan) (rings : List Wire) (wired_then wired_sites : List WiredSite) (disks : List D) (actor : ℕ) (disk : D)
+    → CanSeatAll tells plans rings (map seen disks) wired_then → IsPrefix wired_sites wired_then → slice_get disks actor ≡ Some disk → CanSeat tells plans rings actor (seen disk) wired_sites
+can_seat tells seen plans rings wired_then wired_sites disks actor disk all front at place wired bat is =
+    all place wired (seen disk) (of_prefix wired_sites wired_then place wired front bat) (subst (λ (n : ℕ). slice_get (map seen disks) n ≡ Some (seen disk)) (sym is) (mapped_at seen disks actor disk at))
 
--- the host of the last berth sits in the seat of its actor
-pub hosted : (actor : ℕ) (berths : List Berth) → IsLastBerth actor berths → HasBerth actor berths
-hosted actor old last = record { place = length old - 1; berth = last.berth; at = last.at; site = last.site }
+-- the host of the last wired site sits in the seat of its actor
+pub hosted : (actor : ℕ) (wired_sites : List WiredSite) → IsLastWired actor wired_sites → HasWired actor wired_sites
+hosted actor old last = record { place = length old - 1; wired = last.wired; at = last.at; site = last.site }
 
 -- and may begin
-pub may_begin : (tells : Bool) (plans : List SitePlan) (rings : List Wire) (actor : ℕ) (disk : Seen) (old new : List Berth) (berth : Berth) → old ≡ new ++ berth ∷ [] → IsLastBerth actor old → CanSeat tells plans rings actor disk old
-    → CanOpen Engines.Stands tells plans rings berth.dbms disk berth.stops.items berth.ends
-may_begin tells plans rings actor disk old new berth out last can =
-    subst (λ (b : Berth). CanOpen Engines.Stands tells plans rings b.dbms disk b.stops.items b.ends) (sym (last_is old new berth last.berth out last.at)) (can (length old - 1) last.berth last.at last.site)
+pub may_begin : (tells : Bool) (plans : List SitePlan) (rings : List Wire) (actor : ℕ) (disk : Seen) (old new : List WiredSite) (wired : WiredSite) → old ≡ new ++ wired ∷ [] → IsLastWired actor old → CanSeat tells plans rings actor disk old
+    → CanOpen Engines.Stands tells plans rings wired.dbms disk wired.stops.items wired.ends
+may_begin tells plans rings actor disk old new wired out last can =
+    subst (λ (b : WiredSite). CanOpen Engines.Stands tells plans rings b.dbms disk b.stops.items b.ends) (sym (last_is old new wired last.wired out last.at)) (can (length old - 1) last.wired last.at last.site)
 
 -- all of them
-pub seated_all : {D N : Type 0} (berths_then : List Berth) (disks_then : List D) (berths : List Berth) (disks : List D) (seats : List (Seat D N)) → AreSeatedTo berths_then disks_then berths disks seats → length disks ≤ 1 → AreSeats berths_then disks_then seats
-seated_all berths_then disks_then berths disks seats s most = record { count = (let a = s.count in let b = s.least in omega (arith, a, b, most)); each = s.each }
+pub seated_all : {D N : Type 0} (wired_then : List WiredSite) (disks_then : List D) (wired_sites : List WiredSite) (disks : List D) (seats : List (Seat D N)) → AreSeatedTo wired_then disks_then wired_sites disks seats → length disks ≤ 1 → AreSeats wired_then disks_then seats
+seated_all wired_then disks_then wired_sites disks seats s most = record { count = (let a = s.count in let b = s.least in omega (arith, a, b, most)); each = s.each }
 
 -- so many are taken out
 pub record AreOutTo {D N : Type 0} (tells : Bool) (seen : D → Seen) (plans : List SitePlan) (rings : List Wire) (seats_then : List (Seat D N)) (first : Option Seen) (seats : List (Seat D N)) (disks : List Seen) (lefts : List SiteLeft) : Type 0 where

@@ -10,7 +10,7 @@ use Rattle.fed_world.specs.declared.cores.Cores.{Cores}
 use Rattle.fed_world.specs.declared.world.World.{World}
 use Rattle.fed_world.specs.FreshWorlds.{Stands}
 use Rattle.fed_world.proofs.SeatsByPlace.{has_item}
-use Rattle.federation_run.specs.Crews.{IsManned, IsStood}
+use Rattle.federation_run.specs.Wired.{AreFreshActors, IsStood}
 
 module _ (tells : Bool) (world : World) (disks : List Seen) (scenario : Scenario) (s : Stands tells world disks scenario []) where
   stood : (place : ℕ) (site : SiteId) (dbms : LocalDbms AnyEngine) → slice_get (sites scenario) place ≡ Some site → slice_get world.cores.sites.items.items place ≡ Some dbms → IsStood tells disks scenario site dbms
@@ -22,16 +22,16 @@ module _ (tells : Bool) (world : World) (disks : List Seen) (scenario : Scenario
       record { home = seat.home; is = seat.is; declared = seat.declared; stood = seat.part.dbms }
 
   -- they are those of the scenario
-  pub manned : IsManned tells disks scenario world.cores.coordinator world.cores.sites.items.items
-  manned = record { coordinator = s.stand.actors.coordinator; count = s.stand.actors.sites.all_cores; each = stood; others = s.stand.others }
+  pub fresh : AreFreshActors tells disks scenario world.cores.coordinator world.cores.sites.items.items
+  fresh = record { coordinator = s.stand.actors.coordinator; count = s.stand.actors.sites.all_cores; each = stood; others = s.stand.others }
 
   -- they are those of the scenario that the world bears
-  pub manned_own : IsManned tells disks world.cores.scenario world.cores.coordinator world.cores.sites.items.items
-  manned_own = subst (λ (z : Scenario). IsManned tells disks z world.cores.coordinator world.cores.sites.items.items) (sym s.has.scenario_is) manned
+  pub fresh_own : AreFreshActors tells disks world.cores.scenario world.cores.coordinator world.cores.sites.items.items
+  fresh_own = subst (λ (z : Scenario). AreFreshActors tells disks z world.cores.coordinator world.cores.sites.items.items) (sym s.has.scenario_is) fresh
 
   -- and stay so where the world is taken apart
-  pub manned_apart : (cores : Cores) → cores ≡ world.cores → IsManned tells disks cores.scenario cores.coordinator cores.sites.items.items
-  manned_apart cores is = subst (λ (k : Cores). IsManned tells disks k.scenario k.coordinator k.sites.items.items) (sym is) manned_own
+  pub fresh_apart : (cores : Cores) → cores ≡ world.cores → AreFreshActors tells disks cores.scenario cores.coordinator cores.sites.items.items
+  fresh_apart cores is = subst (λ (k : Cores). AreFreshActors tells disks k.scenario k.coordinator k.sites.items.items) (sym is) fresh_own
 
   pub scenario_apart : (cores : Cores) → cores ≡ world.cores → cores.scenario ≡ scenario
   scenario_apart cores is = ap (λ (k : Cores). k.scenario) is ∙ s.has.scenario_is

@@ -1,6 +1,6 @@
 pub mod Scripts
 pub mod Plans
-pub mod Crews
+pub mod Wired
 pub mod Seats
 pub mod Lefts
 pub mod Sorting

@@ -16,7 +16,7 @@ use Rattle.scripted_link.specs.Rings.{Wire}
 use Rattle.host_laws.specs.CoordPlans.{CoordPlan}
 use Rattle.host_laws.specs.Plans.{SitePlan}
 use Rattle.fed_hosts.specs.declared.ports.Port.{Port}
-use Rattle.federation_run.specs.declared.crews.Berth.{Berth}
+use Rattle.federation_run.specs.declared.wired.WiredSite.{WiredSite}
 
 -- how often the disk of this number failed
 abbrev pub count_at : List ℕ → ℕ → ℕ
@@ -50,5 +50,5 @@ in_turn f g (x ∷ xs) [] = []
 in_turn f g (x ∷ xs) (y ∷ ys) = f x ∷ g y ∷ in_turn f g xs ys
 
 -- for each site the ring to it and then the one from it, as they were made
-abbrev pub wires_of : List Port → List Berth → List Wire
-wires_of ports berths = in_turn (λ (port : Port). outlet_wire port.ends.outlet) (λ (berth : Berth). outlet_wire berth.ends.outlet) ports berths
+abbrev pub wires_of : List Port → List WiredSite → List Wire
+wires_of ports wired_sites = in_turn (λ (port : Port). outlet_wire port.ends.outlet) (λ (wired : WiredSite). outlet_wire wired.ends.outlet) ports wired_sites

@@ -14,7 +14,7 @@ use std::sync::Wait;
 
 /// A transaction that a client drives, local at its home or global where there is none.
 #[derive(Clone, Copy, Debug, PartialEq, Eq, PartialOrd, Ord)]
-pub(crate) struct Ride {
+pub(crate) struct ClientTx {
     pub(crate) tx: Tx,
     pub(crate) home: Option<SiteId>,
 }
@@ -22,30 +22,30 @@ pub(crate) struct Ride {
 /// What clients are given: the transactions by rising number, how many clients there are, how often an attempt waits before it is given
 /// up, and how many calls each client makes at most.
 #[derive(Drop)]
-pub(crate) struct Rides {
-    pub(crate) all: Vec<Ride>,
+pub(crate) struct Workload {
+    pub(crate) all: Vec<ClientTx>,
     pub(crate) clients: u8,
     pub(crate) tries: u8,
     pub(crate) turns: u32,
 }
 
-fn ride_of(line: &TxLine) -> Ride
+fn client_tx_of(line: &TxLine) -> ClientTx
     ensures { result ≡ record { tx = line.now.tx; home = line.now.home } }
 {
-    Ride {
+    ClientTx {
         tx: line.tx,
         home: line.home,
     }
 }
 
 /// What the clients of a scenario are given.
-pub(crate) fn rides_of(alloc: Global, scenario: &Scenario) -> Result<Rides, Memory> {
+pub(crate) fn workload_of(alloc: Global, scenario: &Scenario) -> Result<Workload, Memory> {
     let mut all = Vec::new(alloc);
     for line in scenario.transactions.as_slice() {
-        all.push(ride_of(line))?;
+        all.push(client_tx_of(line))?;
     }
     all.sort()?;
-    Ok(Rides {
+    Ok(Workload {
         all,
         clients: scenario.clients,
         tries: scenario.tries,
@@ -58,13 +58,13 @@ fn drive<R: Wait, D: Disk, G: Gate, N: Plan>(
     rt: &R,
     hosts: &Hosts<D, N>,
     gate: &G,
-    ride: Ride,
+    client_tx: ClientTx,
     tries: u8,
     left: u32,
 ) -> Result<Driven, DoorErr>
     ensures { IfOk result (λ driven. driven.used ≤ left) }
 {
-    match ride.home {
+    match client_tx.home {
         Some(site) => {
             let Some(host) = hosts.site(site) else {
                 return Ok(Driven {
@@ -78,7 +78,7 @@ fn drive<R: Wait, D: Disk, G: Gate, N: Plan>(
                 gate,
                 drive: Drive::new(hosts.moves, site.0),
             };
-            let driven = drive_local(&mut door, ride.tx, tries, left);
+            let driven = drive_local(&mut door, client_tx.tx, tries, left);
             door.drive.end();
             driven
         }
@@ -95,7 +95,7 @@ fn drive<R: Wait, D: Disk, G: Gate, N: Plan>(
                 gate,
                 drive: Drive::new(hosts.moves, 0),
             };
-            let driven = drive_global(&mut door, ride.tx, tries, left);
+            let driven = drive_global(&mut door, client_tx.tx, tries, left);
             door.drive.end();
             driven
         }
@@ -106,17 +106,17 @@ fn drive<R: Wait, D: Disk, G: Gate, N: Plan>(
 /// leaves the client's number over the clients. It stops where a host carries nothing out.
 pub(crate) fn run_client<R: Wait, D: Disk, G: Gate, N: Plan>(
     rt: &R,
-    rides: &Rides,
+    workload: &Workload,
     hosts: &Hosts<D, N>,
     gate: &G,
     client: u8,
 ) {
-    let mut left = rides.turns;
+    let mut left = workload.turns;
     let mut next = usize::from(client);
-    for index in 0..rides.all.len() {
+    for index in 0..workload.all.len() {
         if index == next {
-            next = next.saturating_add(usize::from(rides.clients));
-            match drive(rt, hosts, gate, rides.all[index], rides.tries, left) {
+            next = next.saturating_add(usize::from(workload.clients));
+            match drive(rt, hosts, gate, workload.all[index], workload.tries, left) {
                 Ok(driven) => left -= driven.used,
                 Err(_) => return,
             }

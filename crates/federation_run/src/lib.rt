@@ -8,14 +8,12 @@
 
 mod clients;
 mod closing_up;
-mod crews;
 mod doors;
 mod drives;
 mod errors;
 mod hosts;
 mod laws;
 mod lefts;
-mod mooring;
 mod moves;
 mod running;
 mod scripts;
@@ -24,6 +22,8 @@ mod settling;
 mod sorting;
 mod stops;
 mod tasks;
+mod wired;
+mod wiring;
 
 pub use errors::RunErr;
 pub use fed_hosts::{Gate, NoGate};

@@ -3,20 +3,20 @@ ghost use Rattle.std.specs.Prelude.{◌≡◌, ◌<◌, ◌≤◌, [], IfErr, If
 ghost use Rattle.fed_rules.specs.Plans.{IsScenario};
 ghost use Rattle.fed_world.specs.Faults.{faults_of};
 ghost use Rattle.fed_world.specs.SettingUp.{AreEmpty};
-ghost use Rattle.federation_run.specs.Crews.{IsCrew};
 ghost use Rattle.federation_run.specs.Lefts.{HasLeft};
 ghost use Rattle.federation_run.specs.Running.{EndsBadly, HasRun};
 ghost use Rattle.federation_run.specs.Seats.{IsNamed};
+ghost use Rattle.federation_run.specs.Wired.{AreWiredActors};
 
-use crate::clients::{Rides, rides_of};
+use crate::clients::{Workload, workload_of};
 use crate::closing_up::close_all;
-use crate::crews::Crew;
 use crate::errors::RunErr;
 use crate::lefts::{CoordLeft, Left, SiteLeft};
-use crate::mooring::{crew_of, declared_sites};
 use crate::seats::{Seat, open_all};
 use crate::settling::settle;
 use crate::tasks::{Task, run_tasks, tasks_of};
+use crate::wired::WiredActors;
+use crate::wiring::{declared_sites, wire_actors};
 use any_engine::AnyEngine;
 use conservative_take::AnyPolicy;
 use fed_hosts::{CoordHost, CoordParts, Gate, Plan, SiteHost};
@@ -32,7 +32,7 @@ use std::thread::Threads;
 /// All the memory that a run takes.
 #[derive(Drop)]
 struct Rooms<'h, D: Disk, N: Plan> {
-    rides: Rides,
+    workload: Workload,
     tasks: Vec<Task>,
     seats: Vec<Seat<D, N>>,
     shared: Vec<Option<&'h Mutex<SiteHost<AnyEngine, D, N>>>>,
@@ -51,13 +51,13 @@ fn rooms_for<'h, D: Disk, N: Plan>(
     ensures sites { IfOk result (λ rooms. (rooms.sites.items ≡ []) × (8 ≤ vec_capacity rooms.sites)) }
 {
     let declared = declared_sites(alloc, scenario)?;
-    let rides = rides_of(alloc, scenario)?;
+    let workload = workload_of(alloc, scenario)?;
     let tasks = tasks_of(alloc, declared.as_slice(), scenario.clients)?;
     let seats = Vec::with_capacity(alloc, 8)?;
     let shared = Vec::with_capacity(alloc, 8)?;
     let sites = Vec::with_capacity(alloc, 8)?;
     Ok(Rooms {
-        rides,
+        workload,
         tasks,
         seats,
         shared,
@@ -65,25 +65,25 @@ fn rooms_for<'h, D: Disk, N: Plan>(
     })
 }
 
-/// Runs the hosts of a crew in threads, each with the disk of its number, until every task is done. All memory is taken before the first
-/// disk leaves its place, and each one is back there in the end. Without memory no disk is touched.
+/// Runs the hosts of these actors in threads, each with the disk of its number, until every task is done. All memory is taken before the
+/// first disk leaves its place, and each one is back there in the end. Without memory no disk is touched.
 #[tactic(none)]
 pub(crate) fn run_over<R: Threads + Wait + Sync, D: Disk + Send, G: Gate + Sync, N: Plan + Send>(
     rt: &R,
     alloc: Global,
     scenario: &Scenario,
-    crew: Crew,
+    actors: WiredActors,
     disks: &mut Vec<D>,
     gate: &G,
 ) -> Result<Left, Memory>
     requires told { IsTrue D.tells }
-    requires named { IsNamed scenario.now (faults_of (map D.seen disks.old.items)) crew N.sites N.coordinator N.rings }
-    requires crew { IsCrew D.tells (map D.seen disks.old.items) scenario.now crew }
+    requires named { IsNamed scenario.now (faults_of (map D.seen disks.old.items)) actors N.sites N.coordinator N.rings }
+    requires actors { AreWiredActors D.tells (map D.seen disks.old.items) scenario.now actors }
     ensures left { IfOk result (HasLeft D.tells scenario.now N.sites N.coordinator N.rings (map D.seen disks.old.items) (map D.seen disks.new.items)) }
     ensures untouched { OnErr result (disks.new.items ≡ disks.old.items) }
 {
     let Rooms {
-        rides,
+        workload,
         mut tasks,
         mut seats,
         shared,
@@ -91,22 +91,22 @@ pub(crate) fn run_over<R: Threads + Wait + Sync, D: Disk + Send, G: Gate + Sync,
     } = match rooms_for::<D, N>(alloc, scenario) {
         Ok(rooms) => rooms,
         Err(why) => {
-            drop(crew);
+            drop(actors);
             return Err(why);
         }
     };
-    let Crew {
+    let WiredActors {
         manager,
         stops,
         ports,
-        berths,
-    } = crew;
-    open_all::<D, N>(alloc, disks, berths, &mut seats);
+        wired_sites,
+    } = actors;
+    open_all::<D, N>(alloc, disks, wired_sites, &mut seats);
     let first = disks.take_last();
     let host = Mutex::new(CoordHost::<AnyPolicy, D, N>::new(alloc, manager, first, stops, ports));
     run_tasks(
         rt,
-        &rides,
+        &workload,
         seats.as_slice(),
         &host,
         gate,
@@ -168,10 +168,10 @@ pub fn run_threads<R: Threads + Wait + Sync, D: Disk + Send, G: Gate + Sync>(
         sites,
         ..
     } = world.into_cores();
-    let Ok(crew) = crew_of(alloc, &scenario, coordinator, sites) else {
+    let Ok(actors) = wire_actors(alloc, &scenario, coordinator, sites) else {
         return Err(RunErr::Memory);
     };
-    match run_over::<R, D, G, Brand>(rt, alloc, &scenario, crew, disks, gate) {
+    match run_over::<R, D, G, Brand>(rt, alloc, &scenario, actors, disks, gate) {
         Ok(left) => settle(alloc, scenario, left),
         Err(_) => Err(RunErr::Memory),
     }

@@ -1,9 +1,9 @@
 //! The sites of a run in their seats, and the disks of the others.
 ghost use Rattle.std.specs.Prelude.{◌≡◌, ◌≤◌, [], IsTrue, length, map, slice_get, vec_capacity};
 ghost use mathlib.Core.List.{IsPrefix};
-ghost use Rattle.federation_run.specs.Seats.{AreSeats, CanSeat, CanSeatAll, IsLastBerth, IsSeat};
+ghost use Rattle.federation_run.specs.Seats.{AreSeats, CanSeat, CanSeatAll, IsLastWired, IsSeat};
 
-use crate::crews::Berth;
+use crate::wired::WiredSite;
 use any_engine::AnyEngine;
 use fed_hosts::{Plan, SiteHost};
 use journal_disk::Disk;
@@ -17,33 +17,33 @@ pub(crate) enum Seat<D: Disk, N: Plan> {
     Idle(D),
 }
 
-/// Whether the last berth is that of this actor.
+/// Whether the last wired site is that of this actor.
 #[tactic(none)]
-fn is_next(berths: &Vec<Berth>, actor: u8) -> bool
-    ensures { IsTrue result → IsLastBerth actor berths.now.items }
+fn is_next(wired_sites: &Vec<WiredSite>, actor: u8) -> bool
+    ensures { IsTrue result → IsLastWired actor wired_sites.now.items }
 {
-    match berths.as_slice().last() {
-        Some(berth) => berth.ends.site.0 == actor,
+    match wired_sites.as_slice().last() {
+        Some(wired) => wired.ends.site.0 == actor,
         None => false,
     }
 }
 
-/// The seat of an actor: its host begins with this disk, where the last berth is its own, which is used up then.
+/// The seat of an actor: its host begins with this disk, where the last wired site is its own, which is used up then.
 fn seat_of<D: Disk, N: Plan>(
     alloc: Global,
     actor: u8,
     disk: D,
-    berths: &mut Vec<Berth>,
+    wired_sites: &mut Vec<WiredSite>,
 ) -> Seat<D, N>
     requires told { IsTrue D.tells }
-    requires opens { CanSeat D.tells N.sites N.rings actor (D.seen disk) berths.old.items }
-    ensures seat { IsSeat actor berths.old.items disk result }
-    ensures left { IsPrefix berths.new.items berths.old.items }
+    requires opens { CanSeat D.tells N.sites N.rings actor (D.seen disk) wired_sites.old.items }
+    ensures seat { IsSeat actor wired_sites.old.items disk result }
+    ensures left { IsPrefix wired_sites.new.items wired_sites.old.items }
 {
-    if !is_next(berths, actor) {
+    if !is_next(wired_sites, actor) {
         return Seat::Idle(disk);
     }
-    let Berth { dbms, stops, ends } = berths.take_last();
+    let WiredSite { dbms, stops, ends } = wired_sites.take_last();
     Seat::Hosted(Mutex::new(SiteHost::new(alloc, dbms, disk, stops, ends)))
 }
 
@@ -51,20 +51,20 @@ fn seat_of<D: Disk, N: Plan>(
 pub(crate) fn open_all<D: Disk, N: Plan>(
     alloc: Global,
     disks: &mut Vec<D>,
-    berths: Vec<Berth>,
+    wired_sites: Vec<WiredSite>,
     seats: &mut Vec<Seat<D, N>>,
 )
     requires told { IsTrue D.tells }
     requires nine { length disks.old.items ≡ 9 }
     requires none { seats.old.items ≡ [] }
     requires room { 8 ≤ vec_capacity seats.old }
-    requires opens { CanSeatAll D.tells N.sites N.rings (map D.seen disks.old.items) berths.items }
+    requires opens { CanSeatAll D.tells N.sites N.rings (map D.seen disks.old.items) wired_sites.items }
     ensures one { length disks.new.items ≡ 1 }
     ensures first { slice_get disks.new.items 0 ≡ slice_get disks.old.items 0 }
     ensures room { vec_capacity disks.new ≡ vec_capacity disks.old }
-    ensures seats { AreSeats berths.items disks.old.items seats.new.items }
+    ensures seats { AreSeats wired_sites.items disks.old.items seats.new.items }
 {
-    let mut waiting = berths;
+    let mut waiting = wired_sites;
     while disks.len() > 1 {
         let disk = disks.take_last();
         let seat = seat_of(alloc, disks.len() as u8, disk, &mut waiting);

@@ -1,7 +1,7 @@
 //! The tasks of a run: one for the coordinator, one a site, and one a client.
 ghost use Rattle.std.specs.Prelude.{◌+◌, ◌<◌, ◌≤◌, IfOk, length, vec_len, vec_capacity};
 
-use crate::clients::{Rides, run_client};
+use crate::clients::{Workload, run_client};
 use crate::hosts::{Hosts, hosts_in};
 use crate::moves::Moves;
 use crate::seats::Seat;
@@ -81,24 +81,24 @@ fn turn_coordinator<R: Wait, D: Disk, G: Gate, N: Plan>(
 /// Carries out a task.
 fn run_task<R: Wait, D: Disk, G: Gate, N: Plan>(
     rt: &R,
-    rides: &Rides,
+    workload: &Workload,
     hosts: &Hosts<D, N>,
     gate: &G,
     task: Task,
 ) {
     match task {
         Task::Coordinator => {
-            turn_coordinator(rt, hosts.coordinator, gate, rides.turns, hosts.moves);
+            turn_coordinator(rt, hosts.coordinator, gate, workload.turns, hosts.moves);
             hosts.moves.note_host_ended(0);
         }
         Task::Site(site) => {
             if let Some(host) = hosts.site(site) {
-                turn_site(rt, host, gate, rides.turns, hosts.moves, site);
+                turn_site(rt, host, gate, workload.turns, hosts.moves, site);
             }
             hosts.moves.note_host_ended(site.0);
         }
         Task::Client(client) => {
-            run_client(rt, rides, hosts, gate, client);
+            run_client(rt, workload, hosts, gate, client);
             hosts.moves.note_client_ended();
         }
     }
@@ -113,7 +113,7 @@ pub(crate) fn run_tasks<
     N: Plan + Send,
 >(
     rt: &R,
-    rides: &Rides,
+    workload: &Workload,
     seats: &'h [Seat<D, N>],
     coordinator: &'h Mutex<CoordHost<AnyPolicy, D, N>>,
     gate: &G,
@@ -125,7 +125,7 @@ pub(crate) fn run_tasks<
 {
     let mut sites = sites;
     hosts_in(seats, &mut sites);
-    let moves = Moves::new(u64::from(rides.clients));
+    let moves = Moves::new(u64::from(workload.clients));
     let hosts = Hosts {
         coordinator,
         sites: sites.as_slice(),
@@ -138,7 +138,7 @@ pub(crate) fn run_tasks<
         tasks.as_mut_slice(),
         threads,
         &|_, task| {
-            run_task(rt, rides, &hosts, gate, *task);
+            run_task(rt, workload, &hosts, gate, *task);
         },
     );
 }

@@ -1,4 +1,4 @@
-pub mod MarkLaws
+pub mod CounterLaws
 pub mod VersionLaws
 pub mod EntryLaws
 pub mod Merging

@@ -20,31 +20,31 @@ use Rattle.fed_rules.specs.declared.records.SiteRecord.TheVariants.{Setup, Start
 use Rattle.fed_rules.specs.declared.sums.SiteSum.{SiteSum}
 use Rattle.fed_rules.specs.SiteRecords.{Held, Home, doubts, install_held, installs, last_number, last_ticket, rows_after, ticket_owner}
 use Rattle.fed_rules.specs.SiteSums.{behind_sum, carried, journal_sum, last_sum, locals_with, site_sum, sum_behind, sum_with}
-use Rattle.journal_sums.specs.declared.marks.Marks.{Marks}
+use Rattle.journal_sums.specs.declared.counters.SiteCounters.{SiteCounters}
 use Rattle.journal_sums.specs.declared.reading.Reading.{Reading}
 use Rattle.journal_sums.specs.declared.versions.Versions.{Versions}
 use Rattle.journal_sums.specs.Journals.{Begins, IsFirst, IsJournal, IsJournalOf, base, first_sum}
 use Rattle.journal_sums.specs.Locals.{local_tids}
 use Rattle.order_laws.specs.SortedLists.{also}
 use Rattle.engine_laws.proofs.Rows.{rising_rows_after}
-use Rattle.journal_sums.specs.Readings.{Adds, Holds, Says, SaysJournal, TellsMarks}
+use Rattle.journal_sums.specs.Readings.{Adds, Holds, Says, SaysJournal, TellsCounters}
 use Rattle.journal_sums.specs.Versions.{kept, row_of, version_after, version_in}
 use Rattle.journal_sums.proofs.DoubtLaws.{values_doubts}
 use Rattle.journal_sums.proofs.VersionLaws.{falls-installs, value_in-rows_after, version_in-by_number}
 
 -- the counters stand beside what it holds
-pub holds_beside : (reading : Reading) (marks : Marks) (sum : SiteSum) (newer : List SiteRecord) → Holds reading sum newer →
+pub holds_beside : (reading : Reading) (counters : SiteCounters) (sum : SiteSum) (newer : List SiteRecord) → Holds reading sum newer →
     Holds (record {
       site = reading.site;
       engine = reading.engine;
       protocol = reading.protocol;
-      marks = marks;
+      counters = counters;
       versions = reading.versions;
       first_locals = reading.first_locals;
       locals = reading.locals;
       doubtful = reading.doubtful;
     }) sum newer
-holds_beside reading marks sum newer h = record {
+holds_beside reading counters sum newer h = record {
   site = h.site;
   engine = h.engine;
   protocol = h.protocol;
@@ -63,7 +63,7 @@ pub adds_commit : (old : Reading) (versions : Versions) (doubtful : BTreeMap Tid
       site = old.site;
       engine = old.engine;
       protocol = old.protocol;
-      marks = old.marks;
+      counters = old.counters;
       versions = versions;
       first_locals = old.first_locals;
       locals = old.locals;
@@ -143,10 +143,10 @@ pub sum_is : (reading : Reading) (sum : SiteSum) (newer : List SiteRecord) (rows
       site = reading.site;
       engine = reading.engine;
       protocol = reading.protocol;
-      epoch = reading.marks.epoch;
-      counter = reading.marks.counter;
-      published = reading.marks.published;
-      owner = reading.marks.owner;
+      epoch = reading.counters.epoch;
+      counter = reading.counters.counter;
+      published = reading.counters.published;
+      owner = reading.counters.owner;
       rows = rows;
       locals = locals;
       doubtful = doubtful;
@@ -157,8 +157,8 @@ sum_is reading sum newer rows locals doubtful says rising values locals_are sort
     h : Holds reading sum newer
     h = says.holds
 
-    m : TellsMarks reading.marks sum newer
-    m = says.marks
+    m : TellsCounters reading.counters sum newer
+    m = says.counters
 
     rest : List SiteRecord
     rest = newer ++ carried sum.doubtful

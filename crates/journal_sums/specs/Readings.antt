@@ -9,18 +9,18 @@ use Rattle.fed_rules.specs.declared.records.SiteRecord.{SiteRecord}
 use Rattle.fed_rules.specs.declared.sums.SiteSum.{SiteSum}
 use Rattle.fed_rules.specs.SiteRecords.{Home, doubt_of, installs, last_number, last_ticket, ticket_owner}
 use Rattle.fed_rules.specs.SiteSums.{behind_sum, carried, epoch_with}
-use Rattle.journal_sums.specs.declared.marks.Marks.{Marks}
+use Rattle.journal_sums.specs.declared.counters.SiteCounters.{SiteCounters}
 use Rattle.journal_sums.specs.declared.reading.Reading.{Reading}
 use Rattle.journal_sums.specs.Journals.{base}
 use Rattle.journal_sums.specs.Locals.{local_tids}
 use Rattle.journal_sums.specs.Versions.{kept, version_in}
 
 -- the counters are those of this Checkpoint with the newer records
-pub record TellsMarks (marks : Marks) (sum : SiteSum) (newer : List SiteRecord) : Type 0 where
-  pub epoch : marks.epoch ≡ epoch_with sum.epoch newer
-  pub counter : marks.counter ≡ max (last_number newer) sum.counter
-  pub published : marks.published ≡ max (last_ticket newer) sum.published
-  pub owner : marks.owner ≡ cond (nat_lt sum.published (last_ticket newer)) (ticket_owner newer) sum.owner
+pub record TellsCounters (counters : SiteCounters) (sum : SiteSum) (newer : List SiteRecord) : Type 0 where
+  pub epoch : counters.epoch ≡ epoch_with sum.epoch newer
+  pub counter : counters.counter ≡ max (last_number newer) sum.counter
+  pub published : counters.published ≡ max (last_ticket newer) sum.published
+  pub owner : counters.owner ≡ cond (nat_lt sum.published (last_ticket newer)) (ticket_owner newer) sum.owner
 
 -- beside its counters, all that was read is what this Checkpoint says with the newer records
 pub record Holds (reading : Reading) (sum : SiteSum) (newer : List SiteRecord) : Type 0 where
@@ -35,7 +35,7 @@ pub record Holds (reading : Reading) (sum : SiteSum) (newer : List SiteRecord) :
 
 -- all that was read says what this Checkpoint says with the newer records
 pub record Says (reading : Reading) (sum : SiteSum) (newer : List SiteRecord) : Type 0 where
-  pub marks : TellsMarks reading.marks sum newer
+  pub counters : TellsCounters reading.counters sum newer
   pub holds : Holds reading sum newer
 
 -- beside the counters, the one holds what the other holds with this record behind

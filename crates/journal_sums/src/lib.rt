@@ -8,10 +8,10 @@
 mod committed;
 mod coord_sums;
 mod copies;
+mod counters;
 mod doubtful;
 mod laws;
 mod locals;
-mod marks;
 mod open_attempts;
 mod reading;
 mod starts;

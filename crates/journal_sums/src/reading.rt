@@ -9,9 +9,9 @@ ghost use Rattle.journal_sums.specs.Journals.{Begins, IsFirst, first_sum};
 ghost use Rattle.journal_sums.specs.Readings.{Adds, Says, SaysJournal};
 
 use crate::copies::copy_rows;
+use crate::counters::SiteCounters;
 use crate::doubtful::{by_attempt, first_doubtful, put, settle};
 use crate::locals::all_locals;
-use crate::marks::Marks;
 use crate::versions::{Versions, first_versions, install, rows_of};
 use fed_rules::{DoubtfulSum, DoubtfulSums, SiteRecord, SiteSum};
 use mdb_base::{Engine, Memory, Puts, SiteId, Tid, Tids};
@@ -25,7 +25,7 @@ pub(crate) struct Reading {
     pub site: SiteId,
     pub engine: Engine,
     pub protocol: Protocol,
-    pub marks: Marks,
+    pub counters: SiteCounters,
     /// Each key with its value and the number that wrote it.
     pub versions: Versions,
     /// The local attempts of the Checkpoint.
@@ -64,7 +64,7 @@ impl Reading {
             site: sum.site,
             engine: sum.engine,
             protocol: sum.protocol,
-            marks: Marks::of(sum),
+            counters: SiteCounters::of(sum),
             versions: first_versions(alloc, &sum.rows)?,
             first_locals: Tids::of(Vec::from_slice(alloc, sum.locals.as_slice())?),
             locals: Vec::new(alloc),
@@ -92,7 +92,7 @@ impl Reading {
             *self = Reading::of(alloc, sum)?;
             Ok(())
         } else {
-            self.marks = self.marks.after(entry);
+            self.counters = self.counters.after(entry);
             self.hold(alloc, entry)
         }
     }
@@ -100,7 +100,7 @@ impl Reading {
     /// Holds what a record says beside the counters. A Checkpoint says nothing new.
     fn hold(&mut self, alloc: Global, entry: &SiteRecord) -> Result<(), Memory>
         ensures held { OnOk result (Adds self.old self.new entry.now) }
-        ensures marks { self.new.marks ≡ self.old.marks }
+        ensures counters { self.new.counters ≡ self.old.counters }
     {
         match entry {
             SiteRecord::Prepared {
@@ -136,7 +136,7 @@ impl Reading {
     /// An attempt ended: it is settled, and its writes are installed at a commit, if it was in doubt.
     fn end(&mut self, tid: Tid, decision: Decision) -> Result<(), Memory>
         ensures ended { OnOk result (Adds self.old self.new (Rec.Ended tid decision)) }
-        ensures marks { self.new.marks ≡ self.old.marks }
+        ensures counters { self.new.counters ≡ self.old.counters }
     {
         let held = settle(&mut self.doubtful, tid);
         match decision {
@@ -156,7 +156,7 @@ impl Reading {
             site,
             engine,
             protocol,
-            marks,
+            counters,
             versions,
             first_locals,
             locals,
@@ -169,10 +169,10 @@ impl Reading {
             site,
             engine,
             protocol,
-            epoch: marks.epoch,
-            counter: marks.counter,
-            published: marks.published,
-            owner: marks.owner,
+            epoch: counters.epoch,
+            counter: counters.counter,
+            published: counters.published,
+            owner: counters.owner,
             rows,
             locals,
             doubtful,

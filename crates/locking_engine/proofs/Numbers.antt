@@ -23,7 +23,7 @@ use Rattle.engine_contract.specs.Calls.{start_from}
 use Rattle.engine_laws.proofs.LockingTickets.{locking_one_taker}
 use Rattle.engine_laws.proofs.Takers.{HasOneTaker}
 use Rattle.fed_rules.proofs.RunLines.{run_at_other, run_at_own}
-use Rattle.run_book.specs.declared.marks.Marks.{Marks}
+use Rattle.run_book.specs.declared.counters.Counters.{Counters}
 use Rattle.run_book.specs.declared.rival.Rival.{Rival}
 use Rattle.run_book.specs.Held.{Held, held_in}
 use Rattle.run_book.specs.Book.{started, begins, unbegins, tickets, seals, unseals, table_in, taken_by}
@@ -110,11 +110,11 @@ stands_ticket_stopped old new start older tid held stop s found live ticketless 
     ]
 
 -- a run begins, and its begin is taken back
-pub stands_begins : (old new : LockingEngine) (start : Start) (older : List EngineLine) (tid : Tid) (n : ℕ) → Stands old start older → IsFree start older tid → n ≡ old.book.book.marks.counter + 1 →
+pub stands_begins : (old new : LockingEngine) (start : Start) (older : List EngineLine) (tid : Tid) (n : ℕ) → Stands old start older → IsFree start older tid → n ≡ old.book.book.counters.counter + 1 →
     new.book.book ≡ begins tid old.book.book → old.book.room ≤ new.book.room → new.readers ≡ old.readers → new.writers ≡ old.writers → new.taker ≡ old.taker → Stands new start (Begins tid n ∷ older)
 stands_begins old new start older tid n s free number book room rs ws ts =
     let k = s.keeps.keeps in
-    let right : IsRightLine start older (Begins tid n) = (free, number ∙ ap (λ (m : Marks). m.counter + 1) k.marks) in
+    let right : IsRightLine start older (Begins tid n) = (free, number ∙ ap (λ (m : Counters). m.counter + 1) k.counters) in
     stands_idle old new start older (Begins tid n) None (Some (begun tid n)) s free refl (idle_begun tid n) (calls_well Locking old.book new.book start older (Begins tid n) s.keeps right (book, room)) rs ws ts
 
 pub stands_unbegins : (old new : LockingEngine) (start : Start) (older : List EngineLine) (tid : Tid) (n : ℕ) → Stands old start (Begins tid n ∷ older) →
@@ -156,7 +156,7 @@ only_taker runs t run here takes alone = record {
 }
 
 pub stands_took : (old new : LockingEngine) (start : Start) (older : List EngineLine) (tid : Tid) (held : Held) (n : ℕ) → Stands old start older → held_in old.book.book.runs tid ≡ Some held →
-    held.run.sealed ≡ None → held.run.ticket ≡ None → stop_by held.run.age old.taker ≡ None → n ≡ old.book.book.marks.published + 1 → new.book.book ≡ tickets tid n old.book.book →
+    held.run.sealed ≡ None → held.run.ticket ≡ None → stop_by held.run.age old.taker ≡ None → n ≡ old.book.book.counters.published + 1 → new.book.book ≡ tickets tid n old.book.book →
     new.readers ≡ old.readers → new.writers ≡ old.writers → new.taker ≡ Some (record { tid = tid; rank = held.run.age }) → Stands new start (Takes tid (Ticket n) ∷ older)
 stands_took old new start older tid held n s found live ticketless free number book rs ws ts =
     let k = s.keeps.keeps in
@@ -164,7 +164,7 @@ stands_took old new start older tid held n s found live ticketless free number b
     let was = held.run in
     let now : Run = record was { ticket = Some n } in
     let here = at old start older s tid held found in
-    let next : n ≡ published start older + 1 = number ∙ ap (λ (m : Marks). m.published + 1) k.marks in
+    let next : n ≡ published start older + 1 = number ∙ ap (λ (m : Counters). m.published + 1) k.counters in
     let right = right_take old start older s tid held found (Ticket n) live ticketless
     (ap (λ (m : ℕ). Ticket m) next ∙ ap (λ (o : Option Reply). or_reply o (Ticket (published start older + 1))) (sym free)) in
     let none = subst (λ (o : Option Rival). IsOldest (run_at start older) takes_ticket o) (no_taker held.run.age old.taker free) s.taker in
@@ -181,19 +181,19 @@ stands_took old new start older tid held n s found live ticketless free number b
 
 -- a run is sealed, and its ticket, which is the next one, is published
 pub next_ticket : (old : LockingEngine) (start : Start) (older : List EngineLine) (tid : Tid) (held : Held) → Stands old start older → held_in old.book.book.runs tid ≡ Some held → held.run.sealed ≡ None →
-    IfSome held.run.ticket (λ t. t ≡ old.book.book.marks.published + 1)
+    IfSome held.run.ticket (λ t. t ≡ old.book.book.counters.published + 1)
 next_ticket old start older tid held s found live =
     let k = s.keeps.keeps in
     let one = locking_one_taker start older k.of_kind k.right in
-    let marks = ap (λ (m : Marks). m.published + 1) k.marks in
-    by_ticket held.run.ticket (λ t taken. one.next tid held.run (at old start older s tid held found) live t taken ∙ sym marks)
+    let counters = ap (λ (m : Counters). m.published + 1) k.counters in
+    by_ticket held.run.ticket (λ t taken. one.next tid held.run (at old start older s tid held found) live t taken ∙ sym counters)
   where
-    by_ticket : (o : Option ℕ) → ((t : ℕ) → o ≡ Some t → t ≡ old.book.book.marks.published + 1) → IfSome o (λ t. t ≡ old.book.book.marks.published + 1)
+    by_ticket : (o : Option ℕ) → ((t : ℕ) → o ≡ Some t → t ≡ old.book.book.counters.published + 1) → IfSome o (λ t. t ≡ old.book.book.counters.published + 1)
     by_ticket None h = tt
     by_ticket (Some t) h = h t refl
 
 pub stands_sealed : (old new : LockingEngine) (start : Start) (older : List EngineLine) (tid : Tid) (held : Held) (n : ℕ) → Stands old start older → held_in old.book.book.runs tid ≡ Some held → held.run.sealed ≡ None →
-    n ≡ old.book.book.marks.counter + 1 → new.book.book ≡ seals tid n old.book.book → old.book.room + taken_by (held_in old.book.book.runs tid) ≤ new.book.room →
+    n ≡ old.book.book.counters.counter + 1 → new.book.book ≡ seals tid n old.book.book → old.book.room + taken_by (held_in old.book.book.runs tid) ≤ new.book.room →
     new.readers ≡ old.readers → new.writers ≡ old.writers → new.taker ≡ cond (has_ticket held.run) None old.taker → Stands new start (Seals tid n ∷ older)
 stands_sealed old new start older tid held n s found live number book room rs ws ts =
     let k = s.keeps.keeps in
@@ -203,7 +203,7 @@ stands_sealed old new start older tid held n s found live number book room rs ws
     let here = at old start older s tid held found in
     let stop : seal_stop start.kind start older was ≡ None = ap (λ (kind : Engine). seal_stop kind start older was) k.of_kind in
     let drawn : counter start older + 1 ≡ seal_number start.kind start older was = sym (ap (λ (kind : Engine). seal_number kind start older was) k.of_kind) in
-    let right : IsRightLine start older line = (was, ((here, live), stop, number ∙ (ap (λ (m : Marks). m.counter + 1) k.marks ∙ drawn))) in
+    let right : IsRightLine start older line = (was, ((here, live), stop, number ∙ (ap (λ (m : Counters). m.counter + 1) k.counters ∙ drawn))) in
     let takes : takes_ticket was ≡ has_ticket was = ap (λ (o : Option ℕ). has_ticket was && not (is_some o)) live ∙ and_true (has_ticket was) in
     record {
       keeps = calls_well Locking old.book new.book start older line s.keeps right (book, room);

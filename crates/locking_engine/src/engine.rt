@@ -9,7 +9,7 @@ use crate::holders::{Holders, writers_of};
 use crate::rule::{older_of_two, wait_die};
 use engine_contract::{Kept, LocalEngine, SealErr, Sealed};
 use mdb_base::{Key, Memory, PlainAct, Puts, Reply, Tid};
-use run_book::{Granted, HeldRun, Marks, Rival, RunBook};
+use run_book::{Counters, Granted, HeldRun, Rival, RunBook};
 use std::alloc::Global;
 
 /// A local engine that locks what its runs read and write. It keeps its runs in a book, and beside it for each key who has read it
@@ -61,12 +61,12 @@ impl LockingEngine {
     pub fn new(alloc: Global, rows: &Puts) -> Result<Self, Memory>
         ensures { IfOk result (λ engine. Stands engine (fresh_start Locking rows.now) []) }
     {
-        let marks = Marks {
+        let counters = Counters {
             counter: 0,
             published: 0,
             owner: None,
         };
-        let book = RunBook::start(alloc, rows, &[], marks)?;
+        let book = RunBook::start(alloc, rows, &[], counters)?;
         Ok(LockingEngine {
             book,
             readers: Holders::new(alloc),
@@ -199,7 +199,7 @@ impl LocalEngine for LockingEngine {
         let run = self.book.run(tid);
         let writes = run.puts(alloc)?;
         let ticket = run.ticket();
-        let number = self.book.marks().counter + 1;
+        let number = self.book.counters().counter + 1;
         self.book.seal(alloc, tid, number)?;
         self.publish(ticket);
         Ok(Sealed {
@@ -239,13 +239,13 @@ impl LocalEngine for LockingEngine {
         published: u64,
         owner: Option<Tid>,
     ) -> Result<(), Memory> {
-        let marks = Marks {
+        let counters = Counters {
             counter,
             published,
             owner,
         };
         let writers = writers_of(alloc, doubtful)?;
-        self.book = RunBook::start(alloc, rows, doubtful, marks)?;
+        self.book = RunBook::start(alloc, rows, doubtful, counters)?;
         self.readers = Holders::new(alloc);
         self.writers = writers;
         self.taker = None;

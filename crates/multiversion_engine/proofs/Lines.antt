@@ -120,12 +120,12 @@ ends_run old new tid held found book accesses takers unended olds start older li
     }
 
 -- a run begins
-pub stands_begins : (old new : MultiversionEngine) (start : Start) (older : List EngineLine) (tid : Tid) (n : ℕ) → Stands old start older → IsFree start older tid → n ≡ old.book.book.marks.counter + 1 →
+pub stands_begins : (old new : MultiversionEngine) (start : Start) (older : List EngineLine) (tid : Tid) (n : ℕ) → Stands old start older → IsFree start older tid → n ≡ old.book.book.counters.counter + 1 →
     new.book.book ≡ begins tid old.book.book → old.book.room ≤ new.book.room → new.accesses ≡ old.accesses → new.takers ≡ old.takers → new.unended ≡ insert old.unended n tid → new.olds ≡ old.olds → Stands new start (Begins tid n ∷ older)
 stands_begins old new start older tid n s free number book room accesses takers unended olds =
     let k = s.keeps.keeps in
     let line = Begins tid n in
-    let next : n ≡ counter start older + 1 = number ∙ ap (λ m. m.counter + 1) k.marks in
+    let next : n ≡ counter start older + 1 = number ∙ ap (λ m. m.counter + 1) k.counters in
     let right : IsRightLine start older line = (free, next) in
     record {
       keeps = calls_well Multiversion old.book new.book start older line s.keeps right (book, room);

@@ -22,7 +22,7 @@ use Rattle.access_ages.specs.Stops.{above, below, stop_by, youngest_against, wri
 use Rattle.access_ages.specs.Laws.{AreNow, at_key}
 use Rattle.access_ages.proofs.Rules.{stops_access, stops_reader}
 use Rattle.access_ages.proofs.TicketRules.{stops_taking}
-use Rattle.run_book.specs.declared.marks.Marks.{Marks}
+use Rattle.run_book.specs.declared.counters.Counters.{Counters}
 use Rattle.run_book.specs.declared.rival.Rival.{Rival}
 use Rattle.run_book.specs.Rivals.{rival_by}
 use Rattle.run_book.specs.Held.{Held, held_in, own_write}
@@ -185,12 +185,12 @@ module _ (old : MultiversionEngine) (start : Start) (older : List EngineLine) (s
         noted.0 (λ t q v e. let same : key ≡ q = cc in subst (λ (x : Key). IsThere new.olds x (newest start older x)) same noted.1)
 
     -- a ticket taken
-    pub stands_took : (n : ℕ) → held.run.sealed ≡ None → held.run.ticket ≡ None → IsTicketStop old.takers held.run.age None → n ≡ old.book.book.marks.published + 1 → new.book.book ≡ tickets tid n old.book.book →
+    pub stands_took : (n : ℕ) → held.run.sealed ≡ None → held.run.ticket ≡ None → IsTicketStop old.takers held.run.age None → n ≡ old.book.book.counters.published + 1 → new.book.book ≡ tickets tid n old.book.book →
         new.accesses ≡ old.accesses → new.takers ≡ record old.takers { unended = with_taker (rival_by age_of held.run) old.takers.unended; live = Some (rival_by age_of held.run) } → new.unended ≡ old.unended →
         new.olds ≡ old.olds → Stands new start (Takes tid (Ticket n) ∷ older)
     stands_took n live ticketless free number book accesses takers unended olds =
         let k = s.keeps.keeps in
-        let next : n ≡ published start older + 1 = number ∙ ap (λ (m : Marks). m.published + 1) k.marks in
+        let next : n ≡ published start older + 1 = number ∙ ap (λ (m : Counters). m.published + 1) k.counters in
         let right = right_take (Ticket n) None live ticketless free (ap (λ (m : ℕ). Ticket m) next) in
         stands_on old new start older (Takes tid (Ticket n)) held.run (record held.run { ticket = Some n }) s right at refl refl refl book
         ((λ q. ap (λ (a : Ages). ages_of a q) accesses), takers) unended (subst (λ (o : Olds). AreVersions o start older) (sym olds) s.versions) (λ t q v e. cc)
@@ -208,13 +208,13 @@ module _ (old : MultiversionEngine) (start : Start) (older : List EngineLine) (s
         ((λ q. ap (λ (a : Ages). ages_of a q) accesses), takers) unended (subst (λ (o : Olds). AreVersions o start older) (sym olds) s.versions) (λ t q v e. cc)
 
   -- a run's ticket is the next one to be published
-  pub next_ticket : held.run.sealed ≡ None → IfSome held.run.ticket (λ t. t ≡ old.book.book.marks.published + 1)
+  pub next_ticket : held.run.sealed ≡ None → IfSome held.run.ticket (λ t. t ≡ old.book.book.counters.published + 1)
   next_ticket live =
       let k = s.keeps.keeps in
       let one = age_one_taker Multiversion multiversion_by_age start older k.of_kind k.starts k.right in
-      let marks = ap (λ (m : Marks). m.published + 1) k.marks in
-      by_ticket held.run.ticket (λ t taken. one.next tid held.run at live t taken ∙ sym marks)
+      let counters = ap (λ (m : Counters). m.published + 1) k.counters in
+      by_ticket held.run.ticket (λ t taken. one.next tid held.run at live t taken ∙ sym counters)
     where
-      by_ticket : (o : Option ℕ) → ((t : ℕ) → o ≡ Some t → t ≡ old.book.book.marks.published + 1) → IfSome o (λ t. t ≡ old.book.book.marks.published + 1)
+      by_ticket : (o : Option ℕ) → ((t : ℕ) → o ≡ Some t → t ≡ old.book.book.counters.published + 1) → IfSome o (λ t. t ≡ old.book.book.counters.published + 1)
       by_ticket None h = tt
       by_ticket (Some t) h = h t refl

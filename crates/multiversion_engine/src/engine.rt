@@ -5,7 +5,7 @@ use crate::unended::Unended;
 use access_ages::{AccessAges, TicketAges};
 use engine_contract::{Kept, LocalEngine, SealErr, Sealed};
 use mdb_base::{Key, Memory, PlainAct, Puts, Reply, Tid};
-use run_book::{Granted, HeldRun, Marks, RunBook};
+use run_book::{Counters, Granted, HeldRun, RunBook};
 use std::alloc::Global;
 
 /// A local engine that answers a read the version of its run's age. It keeps its runs in a book, and beside it who accessed each key and
@@ -35,12 +35,12 @@ impl MultiversionEngine {
     pub fn new(alloc: Global, rows: &Puts) -> Result<Self, Memory>
         ensures { IfOk result (λ engine. Stands engine (fresh_start Multiversion rows.now) []) }
     {
-        let marks = Marks {
+        let counters = Counters {
             counter: 0,
             published: 0,
             owner: None,
         };
-        let book = RunBook::start(alloc, rows, &[], marks)?;
+        let book = RunBook::start(alloc, rows, &[], counters)?;
         Ok(MultiversionEngine {
             book,
             accesses: AccessAges::new(alloc),
@@ -144,7 +144,7 @@ impl LocalEngine for MultiversionEngine {
     ghost right = { λ engine start lines stood. stood.keeps.keeps.right };
 
     fn begin(&mut self, alloc: Global, tid: Tid) -> Result<u64, Memory> {
-        let age = self.book.marks().counter + 1;
+        let age = self.book.counters().counter + 1;
         self.unended.add(age, tid)?;
         let begun = self.book.begin(alloc, tid);
         if begun.is_err() {
@@ -241,7 +241,7 @@ impl LocalEngine for MultiversionEngine {
         published: u64,
         owner: Option<Tid>,
     ) -> Result<(), Memory> {
-        let marks = Marks {
+        let counters = Counters {
             counter,
             published,
             owner,
@@ -249,7 +249,7 @@ impl LocalEngine for MultiversionEngine {
         let accesses = AccessAges::restored(alloc, doubtful)?;
         let takers = TicketAges::restored(alloc, doubtful)?;
         let unended = Unended::of_doubtful(alloc, doubtful)?;
-        let book = RunBook::start(alloc, rows, doubtful, marks)?;
+        let book = RunBook::start(alloc, rows, doubtful, counters)?;
         self.olds = noted_of(alloc, &book, doubtful)?;
         self.book = book;
         self.accesses = accesses;

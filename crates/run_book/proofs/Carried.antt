@@ -7,7 +7,7 @@ use Rattle.mdb_base.specs.declared.replies.Reply.TheVariants.{Done, Value, Ticke
 use Rattle.mdb_base.specs.Words.{map_some, or_else}
 use Rattle.fed_rules.specs.Runs.{Start, EngineLine, Begins, Acts, Takes, Seals, Refuses, Commits, Aborts, Run, run_at, has_ticket}
 use Rattle.fed_rules.proofs.RunLines.{run_at_own}
-use Rattle.run_book.specs.declared.marks.Marks.{Marks}
+use Rattle.run_book.specs.declared.counters.Counters.{Counters}
 use Rattle.run_book.specs.Held.{Held, held_in}
 use Rattle.run_book.specs.Book.{Book, RoomyBook, begins, taken_by}
 use Rattle.run_book.specs.Keeps.{Keeps, KeepsRoomy, taken_back}
@@ -37,7 +37,7 @@ taken_there start older tid n run at = ap (λ (o : Option Run). taken_back start
 
 pub calls_well : (kind : Engine) → CallsWell kind
 calls_well kind old new start older (Begins tid n) k right called =
-    let number : n ≡ old.book.marks.counter + 1 = right.1 ∙ sym (ap (λ (m : Marks). m.counter + 1) k.keeps.marks) in
+    let number : n ≡ old.book.counters.counter + 1 = right.1 ∙ sym (ap (λ (m : Counters). m.counter + 1) k.keeps.counters) in
     let room = k.room in
     made kind new start (Begins tid n ∷ older) _ called.0
     (subst (λ (m : ℕ). Keeps kind (begins tid old.book) start (Begins tid m ∷ older)) (sym number) (keeps_begins kind old.book start older tid k.keeps right.0)) (omega (arith, called.1))

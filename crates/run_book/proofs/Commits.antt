@@ -51,9 +51,9 @@ keeps_commits kind book start older tid k right =
           ∙ ap (λ (o : Option Run). kept_after start.rows (by_number o (committed start older)) key) (sym at)))));
       runs = runs-step start older line book.runs (without tid book.runs) k.runs
           (ap (λ (o : Option Held). map_some (λ h. h.run) o) gone ∙ sym (ap (λ (o : Option Run). changed line o) (k.runs tid ∙ at))) others;
-      marks = k.marks;
-      before = λ u h m marks is sealed noted_at. elim (cases_Bool (same_tid tid u)) [
+      counters = k.counters;
+      before = λ u h m counters is sealed noted_at. elim (cases_Bool (same_tid tid u)) [
         | inl e ↦ let bad : None ≡ Some h = sym gone ∙ (ap (λ (t : Tid). held_in (without tid book.runs) t) (same_tid-equal tid u e) ∙ is) in cc
-        | inr e ↦ k.before u h m marks (sym (others u e) ∙ is) sealed noted_at
+        | inr e ↦ k.before u h m counters (sym (others u e) ∙ is) sealed noted_at
       ];
     }

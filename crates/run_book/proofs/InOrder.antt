@@ -8,7 +8,7 @@ use Rattle.mdb_base.proofs.NameLaws.{same_tid-equal, same_tid-sym}
 use Rattle.fed_rules.specs.declared.runs.Kept.{Kept}
 use Rattle.fed_rules.specs.Runs.{Access, restored, is_sealed}
 use Rattle.ticket_item.specs.Item.{Item, is_holder}
-use Rattle.run_book.specs.declared.marks.Marks.{Marks}
+use Rattle.run_book.specs.declared.counters.Counters.{Counters}
 use Rattle.run_book.specs.Held.{Held, Runs, held_in, with_run, without, is_taker}
 use Rattle.run_book.specs.Book.{with_restored, granted_to}
 use Rattle.run_book.specs.Changes.{changed_entries}
@@ -133,23 +133,23 @@ order_put es fs count spare item t held order none is sum zero free =
     }
 
 -- no restored run holds the ticket
-restored_take : (marks : Marks) (doubtful : List Kept) (runs : Runs) (u : Tid) → is_taker (held_in runs u) ≡ false → is_taker (held_in (with_restored marks doubtful runs) u) ≡ false
-restored_take marks [] runs u free = free
-restored_take marks (kept ∷ more) runs u free =
-    let held : Held = record { run = restored kept; marks = marks } in
-    restored_take marks more (with_run kept.tid held runs) u
+restored_take : (counters : Counters) (doubtful : List Kept) (runs : Runs) (u : Tid) → is_taker (held_in runs u) ≡ false → is_taker (held_in (with_restored counters doubtful runs) u) ≡ false
+restored_take counters [] runs u free = free
+restored_take counters (kept ∷ more) runs u free =
+    let held : Held = record { run = restored kept; counters = counters } in
+    restored_take counters more (with_run kept.tid held runs) u
     (ap (λ (o : Option Held). is_taker o) (held_in-with_run runs kept.tid u held) ∙ (taker_cond (same_tid kept.tid u) (Some held) (held_in runs u) ∙ by_same (same_tid kept.tid u) (is_taker (held_in runs u)) free))
   where
     by_same : (b x : Bool) → x ≡ false → cond b false x ≡ false
     by_same true x e = refl
     by_same false x e = e
 
-pub order_restored : (es : List (Tid × Held)) (count spare : ℕ) (item : Item) (marks : Marks) (doubtful : List Kept) → from_entries {R = tid_cmp} es ≡ with_restored marks doubtful empty →
+pub order_restored : (es : List (Tid × Held)) (count spare : ℕ) (item : Item) (counters : Counters) (doubtful : List Kept) → from_entries {R = tid_cmp} es ≡ with_restored counters doubtful empty →
     count ≡ promised es → count ≤ spare → ((u : Tid) → is_holder item u ≡ false) → IsInOrder es count spare item
-order_restored es count spare item marks doubtful is counted fits free = record {
+order_restored es count spare item counters doubtful is counted fits free = record {
   counted = sym counted;
   room = fits;
-  holders = λ u. free u ∙ sym (ap (λ (rs : Runs). is_taker (held_in rs u)) is ∙ restored_take marks doubtful empty u (ap (λ (o : Option Held). is_taker o) (get-empty tid_cmp u)));
+  holders = λ u. free u ∙ sym (ap (λ (rs : Runs). is_taker (held_in rs u)) is ∙ restored_take counters doubtful empty u (ap (λ (o : Option Held). is_taker o) (get-empty tid_cmp u)));
 }
 
 -- an access of a live run, whether there was memory for it or not

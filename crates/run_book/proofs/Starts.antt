@@ -13,7 +13,7 @@ use Rattle.fed_rules.specs.Runs.{Run, restored, restored_at}
 use Rattle.fed_rules.specs.EngineLines.{IsStart, AreApart, AllApart}
 use Rattle.engine_contract.specs.Calls.{start_from}
 use Rattle.mdb_base.proofs.NameLaws.{same_tid-equal, same_tid-sym}
-use Rattle.run_book.specs.declared.marks.Marks.{Marks}
+use Rattle.run_book.specs.declared.counters.Counters.{Counters}
 use Rattle.run_book.specs.Held.{Held, Runs, with_run}
 use Rattle.run_book.specs.Book.{with_restored, started}
 use Rattle.run_book.specs.Keeps.{Keeps, run_in}
@@ -31,11 +31,11 @@ abbrev pub either_run : Option Run → Option Run → Option Run
 either_run None o = o
 either_run (Some run) o = Some run
 
-run_in-restored : (marks : Marks) (doubtful : List Kept) (runs : Runs) (u : Tid) → AllApart doubtful → run_in (with_restored marks doubtful runs) u ≡ either_run (restored_at doubtful u) (run_in runs u)
-run_in-restored marks [] runs u apart = refl
-run_in-restored marks (kept ∷ more) runs u apart =
-    let held : Held = record { run = restored kept; marks = marks } in
-    let rest = run_in-restored marks more (with_run kept.tid held runs) u apart.1 in
+run_in-restored : (counters : Counters) (doubtful : List Kept) (runs : Runs) (u : Tid) → AllApart doubtful → run_in (with_restored counters doubtful runs) u ≡ either_run (restored_at doubtful u) (run_in runs u)
+run_in-restored counters [] runs u apart = refl
+run_in-restored counters (kept ∷ more) runs u apart =
+    let held : Held = record { run = restored kept; counters = counters } in
+    let rest = run_in-restored counters more (with_run kept.tid held runs) u apart.1 in
     let mapped = λ (o : Option Held). map_some (λ (h : Held). h.run) o in
     elim (cases_Bool (same_tid kept.tid u)) [
       | inl e ↦
@@ -60,14 +60,14 @@ pub keeps_starts : (kind : Engine) (rows : List Put) (doubtful : List Kept) (cou
     IsRising (λ row. row.key.0) rows → IsStart (start_from kind rows doubtful counter published owner) →
     Keeps kind (started rows doubtful (record { counter = counter; published = published; owner = owner })) (start_from kind rows doubtful counter published owner) []
 keeps_starts kind rows doubtful counter published owner rising starts =
-    let marks : Marks = record { counter = counter; published = published; owner = owner } in
+    let counters : Counters = record { counter = counter; published = published; owner = owner } in
     record {
       of_kind = refl;
       starts = starts;
       right = tt;
       rising = rising;
       versions = get-first rows;
-      runs = λ u. run_in-restored marks doubtful empty u starts.apart ∙ (ap (either_run (restored_at doubtful u)) (none_first u) ∙ or_nothing (restored_at doubtful u));
-      marks = refl;
+      runs = λ u. run_in-restored counters doubtful empty u starts.apart ∙ (ap (either_run (restored_at doubtful u)) (none_first u) ∙ or_nothing (restored_at doubtful u));
+      counters = refl;
       before = λ u h n m found sealed noted. cc;
     }

@@ -10,40 +10,40 @@ use Rattle.fed_rules.specs.declared.runs.Kept.{Kept}
 use Rattle.fed_rules.specs.Runs.{Access, restored, begun, number, has_ticket}
 use Rattle.site_tables.specs.Numbers.{number_of}
 use Rattle.site_tables.specs.Tables.{Versions, value_of}
-use Rattle.run_book.specs.declared.marks.Marks.{Marks}
+use Rattle.run_book.specs.declared.counters.Counters.{Counters}
 use Rattle.run_book.specs.Held.{Held, Runs, held_in, with_run, changed_in, without}
 use Rattle.run_book.specs.Tables.{first_versions, with_writes}
 
--- what the table keeps of each key, the unended runs, and the marks
+-- what the table keeps of each key, the unended runs, and the counters
 pub record Book : Type 0 where
   pub versions : Versions
   pub runs : Runs
-  pub marks : Marks
+  pub counters : Counters
 
 -- a book, and for how many further holders of the ticket it has room
 pub record RoomyBook : Type 0 where
   pub book : Book
   pub room : ℕ
 
--- the runs with those of transactions in doubt, at each of which these marks are noted
-abbrev pub with_restored : Marks → List Kept → Runs → Runs
-with_restored marks [] runs = runs
-with_restored marks (kept ∷ more) runs = with_restored marks more (with_run kept.tid (record { run = restored kept; marks = marks }) runs)
+-- the runs with those of transactions in doubt, at each of which these counters are noted
+abbrev pub with_restored : Counters → List Kept → Runs → Runs
+with_restored counters [] runs = runs
+with_restored counters (kept ∷ more) runs = with_restored counters more (with_run kept.tid (record { run = restored kept; counters = counters }) runs)
 
 -- the book of an epoch that starts
-abbrev pub started : List Put → List Kept → Marks → Book
-started rows doubtful marks = record { versions = first_versions rows; runs = with_restored marks doubtful empty; marks = marks }
+abbrev pub started : List Put → List Kept → Counters → Book
+started rows doubtful counters = record { versions = first_versions rows; runs = with_restored counters doubtful empty; counters = counters }
 
 -- a run begins with the next number
 abbrev pub begins : Tid → Book → Book
 begins tid book =
-    let n = book.marks.counter + 1 in
-    record book { runs = with_run tid (record { run = begun tid n; marks = book.marks }) book.runs; marks = record book.marks { counter = n } }
+    let n = book.counters.counter + 1 in
+    record book { runs = with_run tid (record { run = begun tid n; counters = book.counters }) book.runs; counters = record book.counters { counter = n } }
 
 -- a run's begin is taken back, with its number
 abbrev pub unbegins : Tid → Book → Book
 unbegins tid book =
-    record book { runs = without tid book.runs; marks = record book.marks { counter = or_else (map_some (λ held. held.run.age - 1) (held_in book.runs tid)) 0 } }
+    record book { runs = without tid book.runs; counters = record book.counters { counter = or_else (map_some (λ held. held.run.age - 1) (held_in book.runs tid)) 0 } }
 
 -- an access is granted to a run
 abbrev pub granted_to : Access → Held → Held
@@ -59,10 +59,10 @@ with_ticket ticket held = record held { run = record held.run { ticket = Some ti
 abbrev pub tickets : Tid → ℕ → Book → Book
 tickets tid ticket book = record book { runs = changed_in tid (with_ticket ticket) book.runs }
 
--- the marks after a sealing with this number and ticket: both rise, and who raised the published ticket owns it
-abbrev pub sealed_marks : Tid → ℕ → ℕ → Marks → Marks
-sealed_marks tid n ticket marks =
-    record { counter = max n marks.counter; published = max ticket marks.published; owner = cond (nat_lt marks.published ticket) (Some tid) marks.owner }
+-- the counters after a sealing with this number and ticket: both rise, and who raised the published ticket owns it
+abbrev pub sealed_counters : Tid → ℕ → ℕ → Counters → Counters
+sealed_counters tid n ticket counters =
+    record { counter = max n counters.counter; published = max ticket counters.published; owner = cond (nat_lt counters.published ticket) (Some tid) counters.owner }
 
 -- the ticket of a run that is held, or 0
 abbrev pub ticket_in : Runs → Tid → ℕ
@@ -72,25 +72,25 @@ ticket_in runs tid = or_else (map_some (λ held. or_else held.run.ticket 0) (hel
 abbrev pub taken_by : Option Held → ℕ
 taken_by o = or_else (map_some (λ held. cond (has_ticket held.run) 1 0) o) 0
 
--- a run is sealed, and the marks before its sealing are noted at it
-abbrev pub sealed_with : ℕ → Marks → Held → Held
-sealed_with n marks held = record { run = record held.run { sealed = Some n }; marks = marks }
+-- a run is sealed, and the counters before its sealing are noted at it
+abbrev pub sealed_with : ℕ → Counters → Held → Held
+sealed_with n counters held = record { run = record held.run { sealed = Some n }; counters = counters }
 
 abbrev pub seals : Tid → ℕ → Book → Book
 seals tid n book =
-    record book { runs = changed_in tid (sealed_with n book.marks) book.runs; marks = sealed_marks tid n (ticket_in book.runs tid) book.marks }
+    record book { runs = changed_in tid (sealed_with n book.counters) book.runs; counters = sealed_counters tid n (ticket_in book.runs tid) book.counters }
 
--- a run's sealing is taken back, with what it did to the marks
+-- a run's sealing is taken back, with what it did to the counters
 abbrev pub not_sealed : Held → Held
 not_sealed held = record held { run = record held.run { sealed = None } }
 
--- the marks before the sealing of a run, which published a ticket where the run has one
-abbrev pub marks_without : Held → Marks → Marks
-marks_without held marks = cond (has_ticket held.run) held.marks (record marks { counter = held.marks.counter })
+-- the counters before the sealing of a run, which published a ticket where the run has one
+abbrev pub counters_without : Held → Counters → Counters
+counters_without held counters = cond (has_ticket held.run) held.counters (record counters { counter = held.counters.counter })
 
 abbrev pub unseals : Tid → Book → Book
 unseals tid book =
-    record book { runs = changed_in tid not_sealed book.runs; marks = or_else (map_some (λ held. marks_without held book.marks) (held_in book.runs tid)) book.marks }
+    record book { runs = changed_in tid not_sealed book.runs; counters = or_else (map_some (λ held. counters_without held book.counters) (held_in book.runs tid)) book.counters }
 
 -- a run leaves
 abbrev pub drops : Tid → Book → Book

@@ -9,18 +9,18 @@ use Rattle.mdb_base.specs.declared.rows.Put.{Put}
 use Rattle.mdb_base.specs.Names.{same_key, tid_cmp}
 use Rattle.mdb_base.specs.Words.{or_else, map_some}
 use Rattle.fed_rules.specs.Runs.{Access, Got, Wrote, Run, is_sealed, has_ticket}
-use Rattle.run_book.specs.declared.marks.Marks.{Marks}
+use Rattle.run_book.specs.declared.counters.Counters.{Counters}
 
--- a run with the marks that were noted at it: of a sealed one those before its sealing
+-- a run with the counters that were noted at it: of a sealed one those before its sealing
 pub record Held : Type 0 where
   pub run : Run
-  pub marks : Marks
+  pub counters : Counters
 
 -- at most one run of each attempt
 abbrev pub Runs : Type 0
 Runs = FinMap tid_cmp Held
 
--- attempts, runs and marks as codes, which the map of runs asks for
+-- attempts, runs and counters as codes, which the map of runs asks for
 abbrev pub tid_code : Coded Tid
 tid_code = code_by (ℕ × ℕ) (coded× coded_ℕ coded_ℕ) (λ t. (t.tx.0, t.attempt)) (λ p. record { tx = record { 0 = p.0 }; attempt = p.1 }) (λ _. refl)
 
@@ -47,13 +47,13 @@ run_code =
     (λ run. (run.tid, (run.age, (run.sealed, (run.ticket, run.acts)))))
     (λ p. record { tid = p.0; age = p.1.0; sealed = p.1.1.0; ticket = p.1.1.1.0; acts = p.1.1.1.1 }) (λ _. refl)
 
-abbrev pub marks_code : Coded Marks
-marks_code =
+abbrev pub counters_code : Coded Counters
+counters_code =
     code_by (ℕ × (ℕ × Option Tid)) (coded× coded_ℕ (coded× coded_ℕ (coded_option tid_code)))
-    (λ marks. (marks.counter, (marks.published, marks.owner))) (λ p. record { counter = p.0; published = p.1.0; owner = p.1.1 }) (λ _. refl)
+    (λ counters. (counters.counter, (counters.published, counters.owner))) (λ p. record { counter = p.0; published = p.1.0; owner = p.1.1 }) (λ _. refl)
 
 abbrev pub held_code : Coded Held
-held_code = code_by (Run × Marks) (coded× run_code marks_code) (λ held. (held.run, held.marks)) (λ p. record { run = p.0; marks = p.1 }) (λ _. refl)
+held_code = code_by (Run × Counters) (coded× run_code counters_code) (λ held. (held.run, held.counters)) (λ p. record { run = p.0; counters = p.1 }) (λ _. refl)
 
 abbrev pub runs_code : Coded Runs
 runs_code = code tid_code held_code

@@ -9,24 +9,24 @@ use Rattle.mdb_base.specs.Rising.{IsRising}
 use Rattle.mdb_base.specs.Words.{map_some, or_else}
 use Rattle.fed_rules.specs.Runs.{Start, EngineLine, Begins, Seals, Run, run_at, counter, published, owner, committed, has_ticket}
 use Rattle.fed_rules.specs.EngineLines.{IsStart, IsRight}
-use Rattle.run_book.specs.declared.marks.Marks.{Marks}
+use Rattle.run_book.specs.declared.counters.Counters.{Counters}
 use Rattle.run_book.specs.Held.{Held, Runs, held_in}
 use Rattle.run_book.specs.Book.{Book, RoomyBook}
 use Rattle.run_book.specs.Tables.{kept_after}
 
--- the run of this attempt, without its marks
+-- the run of this attempt, without its counters
 abbrev pub run_in : Runs → Tid → Option Run
 run_in runs tid = map_some (λ held. held.run) (held_in runs tid)
 
 -- the numbers of a site after these lines
-abbrev pub marks_after : Start → List EngineLine → Marks
-marks_after start lines = record { counter = counter start lines; published = published start lines; owner = owner start lines }
+abbrev pub counters_after : Start → List EngineLine → Counters
+counters_after start lines = record { counter = counter start lines; published = published start lines; owner = owner start lines }
 
 -- the numbers of a site before the last sealing of this attempt
-abbrev pub marks_before : Start → List EngineLine → Tid → Option Marks
-marks_before start [] u = None
-marks_before start (Seals tid n ∷ older) u = cond (same_tid tid u) (Some (marks_after start older)) (marks_before start older u)
-marks_before start (line ∷ older) u = marks_before start older u
+abbrev pub counters_before : Start → List EngineLine → Tid → Option Counters
+counters_before start [] u = None
+counters_before start (Seals tid n ∷ older) u = cond (same_tid tid u) (Some (counters_after start older)) (counters_before start older u)
+counters_before start (line ∷ older) u = counters_before start older u
 
 -- how many tickets the newest sealings published, which may be taken back one after another
 abbrev pub taken_back : Start → List EngineLine → ℕ
@@ -42,8 +42,8 @@ pub record Keeps (kind : Engine) (book : Book) (start : Start) (lines : List Eng
   pub rising : IsRising (λ row. row.key.0) start.rows
   pub versions : (key : Key) → get book.versions key.0 ≡ kept_after start.rows (committed start lines) key
   pub runs : (u : Tid) → run_in book.runs u ≡ run_at start lines u
-  pub marks : book.marks ≡ marks_after start lines
-  pub before : (u : Tid) (held : Held) (n : ℕ) (marks : Marks) → held_in book.runs u ≡ Some held → held.run.sealed ≡ Some n → marks_before start lines u ≡ Some marks → held.marks ≡ marks
+  pub counters : book.counters ≡ counters_after start lines
+  pub before : (u : Tid) (held : Held) (n : ℕ) (counters : Counters) → held_in book.runs u ≡ Some held → held.run.sealed ≡ Some n → counters_before start lines u ≡ Some counters → held.counters ≡ counters
 
 -- and it has room to take the newest sealings back
 pub record KeepsRoomy (kind : Engine) (roomy : RoomyBook) (start : Start) (lines : List EngineLine) : Type 0 where

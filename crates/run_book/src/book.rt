@@ -8,9 +8,9 @@ ghost use Rattle.run_book.specs.Held.{held_in};
 ghost use Rattle.run_book.specs.Book.{started, begins, unbegins, grants, tickets, seals, unseals, drops, commits, table_in, number_in, taken_by};
 ghost use Rattle.run_book.specs.Tables.{AreRowsOf};
 
+use crate::counters::Counters;
 use crate::granted::Granted;
 use crate::held_run::HeldRun;
-use crate::marks::Marks;
 use crate::run_map::{self, Runs, promised, restored};
 use fed_rules::Kept;
 use mdb_base::{Key, Memory, Puts, Tid};
@@ -47,7 +47,7 @@ impl Model for RunBook {
       book = record {
         versions = b.tables.versions;
         runs = from_entries (by_tid b.runs.entries);
-        marks = record { counter = b.counter; published = b.ticket.published; owner = b.ticket.owner };
+        counters = record { counter = b.counter; published = b.ticket.published; owner = b.ticket.owner };
       };
       room = b.ticket.spare;
     } };
@@ -56,35 +56,35 @@ impl Model for RunBook {
 }
 
 impl RunBook {
-    /// The book of an epoch that starts with these rows, transactions in doubt and marks.
+    /// The book of an epoch that starts with these rows, transactions in doubt and counters.
     pub fn start(
         alloc: Global,
         rows: &Puts,
         doubtful: &[Kept],
-        marks: Marks,
+        counters: Counters,
     ) -> Result<Self, Memory>
-        ensures book { IfOk result (λ book. book.book ≡ started rows.now doubtful.now marks) }
+        ensures book { IfOk result (λ book. book.book ≡ started rows.now doubtful.now counters) }
         ensures rising { OnOk result (IsRising (λ row. row.key.0) rows.now) }
     {
         let mut tables = Tables::new(alloc, rows)?;
-        let runs = restored(alloc, doubtful, marks)?;
+        let runs = restored(alloc, doubtful, counters)?;
         let promised = promised(&runs)?;
         tables.reserve(alloc, promised)?;
-        let ticket = TicketItem::new(alloc, marks.published, marks.owner)?;
+        let ticket = TicketItem::new(alloc, counters.published, counters.owner)?;
         Ok(RunBook {
             tables,
             runs,
             promised,
-            counter: marks.counter,
+            counter: counters.counter,
             ticket,
         })
     }
 
-    /// The marks.
-    pub fn marks(&self) -> Marks
-        ensures { result ≡ self.now.book.marks }
+    /// The counters.
+    pub fn counters(&self) -> Counters
+        ensures { result ≡ self.now.book.counters }
     {
-        Marks {
+        Counters {
             counter: self.counter,
             published: self.ticket.peek(),
             owner: self.ticket.owner(),
@@ -139,14 +139,14 @@ impl RunBook {
     /// Begins a run of an attempt that has none, and answers its number.
     pub fn begin(&mut self, alloc: Global, tid: Tid) -> Result<u64, Memory>
         requires free { held_in self.old.book.runs tid ≡ None }
-        requires fits { self.old.book.marks.counter + 1 < 2 ^ 64 }
-        ensures number { IfOk result (λ n. n ≡ self.old.book.marks.counter + 1) }
+        requires fits { self.old.book.counters.counter + 1 < 2 ^ 64 }
+        ensures number { IfOk result (λ n. n ≡ self.old.book.counters.counter + 1) }
         ensures begun { OnOk result (self.new.book ≡ begins tid self.old.book) }
         ensures memory { OnErr result (self.new.book ≡ self.old.book) }
         ensures room { self.old.room ≤ self.new.room }
     {
         let number = self.counter + 1;
-        let run = HeldRun::begun(alloc, tid, number, self.marks());
+        let run = HeldRun::begun(alloc, tid, number, self.counters());
         run_map::put(&mut self.runs, tid, run)?;
         self.counter = number;
         Ok(number)
@@ -168,9 +168,9 @@ impl RunBook {
         requires held { IsSome (held_in self.old.book.runs tid) }
         requires live { IfSome (held_in self.old.book.runs tid) (λ held. held.run.sealed ≡ None) }
         requires ticketless { IfSome (held_in self.old.book.runs tid) (λ held. held.run.ticket ≡ None) }
-        requires fits { self.old.book.marks.published + 1 < 2 ^ 64 }
-        ensures ticket { IfOk result (λ n. n ≡ self.old.book.marks.published + 1) }
-        ensures taken { OnOk result (self.new.book ≡ tickets tid (self.old.book.marks.published + 1) self.old.book) }
+        requires fits { self.old.book.counters.published + 1 < 2 ^ 64 }
+        ensures ticket { IfOk result (λ n. n ≡ self.old.book.counters.published + 1) }
+        ensures taken { OnOk result (self.new.book ≡ tickets tid (self.old.book.counters.published + 1) self.old.book) }
         ensures memory { OnErr result (self.new.book ≡ self.old.book) }
         ensures room { OnErr result (self.old.room ≤ self.new.room) }
     {
@@ -181,12 +181,12 @@ impl RunBook {
     }
 
     /// Seals a live run with this serial number: its ticket, which is the next one where it has one, is published with it, and the
-    /// marks before are noted at it. Room for its writes is made in the table, and it is sealed only where there is memory for that.
+    /// counters before are noted at it. Room for its writes is made in the table, and it is sealed only where there is memory for that.
     pub fn seal(&mut self, alloc: Global, tid: Tid, number: u64) -> Result<(), Memory>
         requires held { IsSome (held_in self.old.book.runs tid) }
         requires live { IfSome (held_in self.old.book.runs tid) (λ held. held.run.sealed ≡ None) }
         requires next { IfSome (held_in self.old.book.runs tid)
-            (λ held. IfSome held.run.ticket (λ ticket. ticket ≡ self.old.book.marks.published + 1)) }
+            (λ held. IfSome held.run.ticket (λ ticket. ticket ≡ self.old.book.counters.published + 1)) }
         ensures sealed { OnOk result (self.new.book ≡ seals tid number self.old.book) }
         ensures memory { OnErr result (self.new.book ≡ self.old.book) }
         ensures room { OnOk result (self.old.room + taken_by (held_in self.old.book.runs tid) ≤ self.new.room) }
@@ -196,10 +196,10 @@ impl RunBook {
         let ticket = run.ticket();
         let promised = self.promised.checked_add(run.count_writes()).ok_or(Memory)?;
         self.tables.reserve(alloc, promised)?;
-        let marks = self.marks();
-        run_map::seal(&mut self.runs, tid, number, marks);
+        let counters = self.counters();
+        run_map::seal(&mut self.runs, tid, number, counters);
         self.promised = promised;
-        self.counter = number.max(marks.counter);
+        self.counter = number.max(counters.counter);
         if let Some(ticket) = ticket {
             self.ticket.publish(tid, ticket);
         }
@@ -215,13 +215,13 @@ impl RunBook {
         ensures room { self.old.room ≤ self.new.room + taken_by (held_in self.old.book.runs tid) }
     {
         let run = self.run(tid);
-        let marks = run.marks();
+        let counters = run.counters();
         let has_ticket = run.ticket().is_some();
         self.promised -= run.promised();
         run_map::unseal(&mut self.runs, tid);
-        self.counter = marks.counter;
+        self.counter = counters.counter;
         if has_ticket {
-            self.ticket.withdraw(tid, marks.published, marks.owner);
+            self.ticket.withdraw(tid, counters.published, counters.owner);
         }
     }
 

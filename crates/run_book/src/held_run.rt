@@ -6,10 +6,10 @@ ghost use Rattle.run_book.specs.Held.{own_write};
 ghost use Rattle.run_book.specs.Rivals.{rival_by};
 ghost use Rattle.run_book.specs.Tables.{writes_in, promised_by, with_writes};
 
+use crate::counters::Counters;
 use crate::granted::{
     Granted, any_reads, any_writes, count_writes, granted_writes, install_writes, last_write,
 };
-use crate::marks::Marks;
 use crate::rival::Rival;
 use crate::row_list::last_writes;
 use fed_rules::Kept;
@@ -21,7 +21,7 @@ use std::marker::Model;
 /// For how many accesses there is room from the first one on.
 const FIRST_ROOM: usize = 8;
 
-/// A run, with its granted accesses, the oldest first, and the marks that were noted at it.
+/// A run, with its granted accesses, the oldest first, and the counters that were noted at it.
 #[derive(Drop)]
 pub struct HeldRun {
     tid: Tid,
@@ -29,7 +29,7 @@ pub struct HeldRun {
     sealed: Option<u64>,
     ticket: Option<u64>,
     acts: Vec<Granted>,
-    marks: Marks,
+    counters: Counters,
 }
 
 impl Model for HeldRun {
@@ -40,14 +40,14 @@ impl Model for HeldRun {
 
     ghost view = { λ h. record {
       run = record { tid = h.tid; age = h.age; sealed = h.sealed; ticket = h.ticket; acts = reverse h.acts.items };
-      marks = h.marks;
+      counters = h.counters;
     } };
 }
 
 impl HeldRun {
     /// A run that begins.
-    pub fn begun(alloc: Global, tid: Tid, age: u64, marks: Marks) -> Self
-        ensures { result ≡ record { run = begun tid age; marks = marks } }
+    pub fn begun(alloc: Global, tid: Tid, age: u64, counters: Counters) -> Self
+        ensures { result ≡ record { run = begun tid age; counters = counters } }
     {
         HeldRun {
             tid,
@@ -55,13 +55,13 @@ impl HeldRun {
             sealed: None,
             ticket: None,
             acts: Vec::new(alloc),
-            marks,
+            counters,
         }
     }
 
     /// A run of a transaction in doubt, as a restart finds it.
-    pub fn restored(alloc: Global, kept: &Kept, marks: Marks) -> Result<Self, Memory>
-        ensures { IfOk result (λ held. held ≡ record { run = restored kept.now; marks = marks }) }
+    pub fn restored(alloc: Global, kept: &Kept, counters: Counters) -> Result<Self, Memory>
+        ensures { IfOk result (λ held. held ≡ record { run = restored kept.now; counters = counters }) }
     {
         Ok(HeldRun {
             tid: kept.tid,
@@ -69,7 +69,7 @@ impl HeldRun {
             sealed: Some(kept.number),
             ticket: Some(kept.ticket),
             acts: granted_writes(alloc, kept.writes.as_slice())?,
-            marks,
+            counters,
         })
     }
 
@@ -108,11 +108,11 @@ impl HeldRun {
         self.ticket
     }
 
-    /// The marks that were noted at it.
-    pub fn marks(&self) -> Marks
-        ensures { result ≡ self.now.marks }
+    /// The counters that were noted at it.
+    pub fn counters(&self) -> Counters
+        ensures { result ≡ self.now.counters }
     {
-        self.marks
+        self.counters
     }
 
     /// Its granted accesses, the oldest first.
@@ -208,12 +208,12 @@ impl HeldRun {
         self.ticket = Some(ticket);
     }
 
-    /// Seals it, and notes these marks.
-    pub fn seal(&mut self, number: u64, marks: Marks)
-        ensures { self.new ≡ record { run = record self.old.run { sealed = Some number }; marks = marks } }
+    /// Seals it, and notes these counters.
+    pub fn seal(&mut self, number: u64, counters: Counters)
+        ensures { self.new ≡ record { run = record self.old.run { sealed = Some number }; counters = counters } }
     {
         self.sealed = Some(number);
-        self.marks = marks;
+        self.counters = counters;
     }
 
     /// Takes its sealing back.

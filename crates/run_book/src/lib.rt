@@ -3,17 +3,17 @@
 #![tactic(auto)]
 
 mod book;
+mod counters;
 mod granted;
 mod held_run;
 mod laws;
-mod marks;
 mod rival;
 mod row_list;
 mod run_map;
 
 pub use book::RunBook;
+pub use counters::Counters;
 pub use granted::Granted;
 pub use held_run::HeldRun;
 pub use laws::the_book_follows_the_lines;
-pub use marks::Marks;
 pub use rival::Rival;

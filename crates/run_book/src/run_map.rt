@@ -10,9 +10,9 @@ ghost use Rattle.run_book.specs.Changes.{changed_entries};
 ghost use Rattle.run_book.specs.Named.{by_tid, name_of};
 ghost use Rattle.run_book.specs.Tables.{promised as promised_of_all, promised_by};
 
+use crate::counters::Counters;
 use crate::granted::Granted;
 use crate::held_run::HeldRun;
-use crate::marks::Marks;
 use fed_rules::Kept;
 use mdb_base::{Memory, Tid};
 use std::alloc::Global;
@@ -87,12 +87,12 @@ pub(crate) fn hold_ticket(runs: &mut Runs, tid: Tid, ticket: u64)
     }
 }
 
-/// Seals the run of this attempt, and notes these marks at it.
-pub(crate) fn seal(runs: &mut Runs, tid: Tid, number: u64, marks: Marks)
-    ensures { by_tid runs.new.entries ≡ changed_entries tid (sealed_with number marks) (by_tid runs.old.entries) }
+/// Seals the run of this attempt, and notes these counters at it.
+pub(crate) fn seal(runs: &mut Runs, tid: Tid, number: u64, counters: Counters)
+    ensures { by_tid runs.new.entries ≡ changed_entries tid (sealed_with number counters) (by_tid runs.old.entries) }
 {
     if let Some(run) = runs.get_mut(&Name::of(tid)) {
-        run.seal(number, marks);
+        run.seal(number, counters);
     }
 }
 
@@ -105,13 +105,17 @@ pub(crate) fn unseal(runs: &mut Runs, tid: Tid)
     }
 }
 
-/// The runs of transactions in doubt, at each of which these marks are noted.
-pub(crate) fn restored(alloc: Global, doubtful: &[Kept], marks: Marks) -> Result<Runs, Memory>
-    ensures { IfOk result (λ runs. from_entries (by_tid runs.entries) ≡ with_restored marks doubtful.now empty) }
+/// The runs of transactions in doubt, at each of which these counters are noted.
+pub(crate) fn restored(alloc: Global, doubtful: &[Kept], counters: Counters) -> Result<Runs, Memory>
+    ensures { IfOk result (λ runs. from_entries (by_tid runs.entries) ≡ with_restored counters doubtful.now empty) }
 {
     let mut runs = HashMap::new(alloc);
     for kept in doubtful {
-        put(&mut runs, kept.tid, HeldRun::restored(alloc, kept, marks)?)?;
+        put(
+            &mut runs,
+            kept.tid,
+            HeldRun::restored(alloc, kept, counters)?,
+        )?;
     }
     Ok(runs)
 }

@@ -21,7 +21,7 @@ use Rattle.fed_rules.specs.EngineLines.{IsRightLine, IsFree, IsStart}
 use Rattle.engine_contract.specs.Calls.{start_from}
 use Rattle.engine_laws.proofs.AgeTickets.{age_one_taker}
 use Rattle.engine_laws.proofs.TimestampRuns.{timestamp_by_age}
-use Rattle.run_book.specs.declared.marks.Marks.{Marks}
+use Rattle.run_book.specs.declared.counters.Counters.{Counters}
 use Rattle.run_book.specs.Held.{Held, held_in}
 use Rattle.run_book.specs.Book.{Book, started, begins, unbegins, unseals, drops, table_in, taken_by}
 use Rattle.run_book.specs.Keeps.{Keeps}
@@ -112,13 +112,13 @@ module _ (old : TimestampEngine) (start : Start) (older : List EngineLine) (s : 
       ap (λ (m : ByAge). get m held.run.age) s.ages.unended ∙ unlisted start older tid held.run k.starts k.right at ticketless
 
   -- the next ticket is the run's, where it has one
-  pub next_ticket : held.run.sealed ≡ None → IfSome held.run.ticket (λ t. t ≡ old.book.book.marks.published + 1)
+  pub next_ticket : held.run.sealed ≡ None → IfSome held.run.ticket (λ t. t ≡ old.book.book.counters.published + 1)
   next_ticket live =
       let k = s.keeps.keeps in
       let one = age_one_taker Timestamp timestamp_by_age start older k.of_kind k.starts k.right in
-      by_ticket held.run.ticket (λ t taken. one.next tid held.run at live t taken ∙ sym (ap (λ (m : Marks). m.published + 1) k.marks))
+      by_ticket held.run.ticket (λ t taken. one.next tid held.run at live t taken ∙ sym (ap (λ (m : Counters). m.published + 1) k.counters))
     where
-      by_ticket : (o : Option ℕ) → ((t : ℕ) → o ≡ Some t → t ≡ old.book.book.marks.published + 1) → IfSome o (λ t. t ≡ old.book.book.marks.published + 1)
+      by_ticket : (o : Option ℕ) → ((t : ℕ) → o ≡ Some t → t ≡ old.book.book.counters.published + 1) → IfSome o (λ t. t ≡ old.book.book.counters.published + 1)
       by_ticket None h = tt
       by_ticket (Some t) h = h t refl
 
@@ -162,11 +162,11 @@ stands_ticket_stopped old new start older tid held stop s found live ticketless 
     ]
 
 -- a run begins, and its begin is taken back
-pub stands_begins : (old new : TimestampEngine) (start : Start) (older : List EngineLine) (tid : Tid) (n : ℕ) → Stands old start older → IsFree start older tid → n ≡ old.book.book.marks.counter + 1 →
+pub stands_begins : (old new : TimestampEngine) (start : Start) (older : List EngineLine) (tid : Tid) (n : ℕ) → Stands old start older → IsFree start older tid → n ≡ old.book.book.counters.counter + 1 →
     new.book.book ≡ begins tid old.book.book → old.book.room ≤ new.book.room → new.accesses ≡ old.accesses → new.takers ≡ old.takers → Stands new start (Begins tid n ∷ older)
 stands_begins old new start older tid n s free number book room keys ts =
     let k = s.keeps.keeps in
-    let right : IsRightLine start older (Begins tid n) = (free, number ∙ ap (λ (m : Marks). m.counter + 1) k.marks) in
+    let right : IsRightLine start older (Begins tid n) = (free, number ∙ ap (λ (m : Counters). m.counter + 1) k.counters) in
     record {
       keeps = calls_well Timestamp old.book new.book start older (Begins tid n) s.keeps right (book, room);
       ages = subst (λ (a : Ages). KeepsAges a new.takers start (Begins tid n ∷ older)) (sym keys)

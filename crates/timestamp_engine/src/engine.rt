@@ -2,7 +2,7 @@
 use access_ages::{AccessAges, TicketAges};
 use engine_contract::{Kept, LocalEngine, SealErr, Sealed};
 use mdb_base::{Key, Memory, PlainAct, Puts, Reply, Tid};
-use run_book::{Granted, Marks, RunBook};
+use run_book::{Counters, Granted, RunBook};
 use std::alloc::Global;
 
 /// A local engine that keeps its runs in the order of their begins. It keeps them in a book, and beside it for each key who accessed
@@ -28,12 +28,12 @@ impl TimestampEngine {
     pub fn new(alloc: Global, rows: &Puts) -> Result<Self, Memory>
         ensures { IfOk result (λ engine. Stands engine (fresh_start Timestamp rows.now) []) }
     {
-        let marks = Marks {
+        let counters = Counters {
             counter: 0,
             published: 0,
             owner: None,
         };
-        let book = RunBook::start(alloc, rows, &[], marks)?;
+        let book = RunBook::start(alloc, rows, &[], counters)?;
         Ok(TimestampEngine {
             book,
             accesses: AccessAges::new(alloc),
@@ -178,14 +178,14 @@ impl LocalEngine for TimestampEngine {
         published: u64,
         owner: Option<Tid>,
     ) -> Result<(), Memory> {
-        let marks = Marks {
+        let counters = Counters {
             counter,
             published,
             owner,
         };
         let accesses = AccessAges::restored(alloc, doubtful)?;
         let takers = TicketAges::restored(alloc, doubtful)?;
-        self.book = RunBook::start(alloc, rows, doubtful, marks)?;
+        self.book = RunBook::start(alloc, rows, doubtful, counters)?;
         self.accesses = accesses;
         self.takers = takers;
         Ok(())

@@ -16,9 +16,9 @@ use Rattle.fed_rules.specs.EngineLines.{IsRight, IsStart}
 use Rattle.engine_laws.proofs.ValidationRuns.{or_why_none}
 use Rattle.engine_laws.proofs.ValidationTickets.{owned, unmoved}
 use Rattle.mdb_base.proofs.NameLaws.{same_key-refl}
-use Rattle.run_book.specs.declared.marks.Marks.{Marks}
+use Rattle.run_book.specs.declared.counters.Counters.{Counters}
 use Rattle.run_book.specs.declared.rival.Rival.{Rival}
-use Rattle.run_book.specs.Keeps.{marks_after}
+use Rattle.run_book.specs.Keeps.{counters_after}
 use Rattle.run_book.specs.Rivals.{rival_by}
 use Rattle.run_book.proofs.Best.{TellsApart, least-found, least-empty}
 use Rattle.run_book.proofs.Members.{Is, is-those, those-is}
@@ -230,23 +230,23 @@ module _ (index : Index) (start : Start) (lines : List EngineLine) (kind : start
       by_bad None is = sym (none_invalid is)
       by_bad (Some bad) is = sym (some_invalid bad is)
 
-  moved_is : (marks : Marks) (o : Option ℕ) → marks ≡ marks_after start lines → moved_in marks o ≡ moved start lines o
-  moved_is marks None is = refl
-  moved_is marks (Some ticket) is = ap (λ (m : Marks). cond (ticket == m.published + 1) None (moved_by m.owner)) is
+  moved_is : (counters : Counters) (o : Option ℕ) → counters ≡ counters_after start lines → moved_in counters o ≡ moved start lines o
+  moved_is counters None is = refl
+  moved_is counters (Some ticket) is = ap (λ (m : Counters). cond (ticket == m.published + 1) None (moved_by m.owner)) is
 
   -- what refuses a sealing by the index refuses it by the rule
-  pub seal_stop-rule : (marks : Marks) → marks ≡ marks_after start lines → seal_stop_by index marks me ≡ seal_stop start.kind start lines me
-  seal_stop-rule marks is =
-      ap (λ (why : Option Why). or_why why (moved_in marks me.ticket)) invalid_is
-      ∙ (ap (λ (why : Option Why). or_why (invalid start lines me) why) (moved_is marks me.ticket is)
+  pub seal_stop-rule : (counters : Counters) → counters ≡ counters_after start lines → seal_stop_by index counters me ≡ seal_stop start.kind start lines me
+  seal_stop-rule counters is =
+      ap (λ (why : Option Why). or_why why (moved_in counters me.ticket)) invalid_is
+      ∙ (ap (λ (why : Option Why). or_why (invalid start lines me) why) (moved_is counters me.ticket is)
       ∙ sym (ap (λ (k : Engine). seal_stop k start lines me) kind))
 
   -- a run that passes has the next ticket, where it has one
-  pub passed_ticket : (marks : Marks) → marks ≡ marks_after start lines → seal_stop_by index marks me ≡ None → IfSome me.ticket (λ t. t ≡ marks.published + 1)
-  passed_ticket marks is passed = by_ticket me.ticket refl (sym (moved_is marks me.ticket is) ∙ (or_why_none (invalid_by_bad (least_bad_of (spoiler_of index me.age) me.acts)) (moved_in marks me.ticket) passed).1)
+  pub passed_ticket : (counters : Counters) → counters ≡ counters_after start lines → seal_stop_by index counters me ≡ None → IfSome me.ticket (λ t. t ≡ counters.published + 1)
+  passed_ticket counters is passed = by_ticket me.ticket refl (sym (moved_is counters me.ticket is) ∙ (or_why_none (invalid_by_bad (least_bad_of (spoiler_of index me.age) me.acts)) (moved_in counters me.ticket) passed).1)
     where
-      by_ticket : (o : Option ℕ) → me.ticket ≡ o → moved start lines me.ticket ≡ None → IfSome o (λ t. t ≡ marks.published + 1)
+      by_ticket : (o : Option ℕ) → me.ticket ≡ o → moved start lines me.ticket ≡ None → IfSome o (λ t. t ≡ counters.published + 1)
       by_ticket None none free = tt
       by_ticket (Some t) taken free =
           unmoved start lines t (owned start lines kind right me.tid me at live t taken) (ap (λ (o : Option ℕ). moved start lines o) (sym taken) ∙ free)
-          ∙ sym (ap (λ (m : Marks). m.published + 1) is)
+          ∙ sym (ap (λ (m : Counters). m.published + 1) is)

@@ -22,7 +22,7 @@ use Rattle.engine_contract.specs.Calls.{HidesNone, PassesRule}
 use Rattle.engine_contract.specs.Past.{EachPast}
 use Rattle.engine_laws.proofs.Runs.{tid_is}
 use Rattle.fed_rules.proofs.RunLines.{run_at_other, run_at_own}
-use Rattle.run_book.specs.declared.marks.Marks.{Marks}
+use Rattle.run_book.specs.declared.counters.Counters.{Counters}
 use Rattle.run_book.specs.Held.{Held, held_in}
 use Rattle.run_book.specs.Book.{Book, begins, unbegins, grants, tickets, seals, unseals, drops, commits, table_in, taken_by}
 use Rattle.run_book.specs.Keeps.{Keeps, KeepsRoomy}
@@ -65,11 +65,11 @@ stands_idle old new start older line s before after keeps kept still own = recor
 }
 
 -- a run begins, and its begin is taken back
-pub stands_begins : (old new : ValidationEngine) (start : Start) (older : List EngineLine) (tid : Tid) (n : ℕ) → Stands old start older → IsFree start older tid → n ≡ old.book.book.marks.counter + 1 →
+pub stands_begins : (old new : ValidationEngine) (start : Start) (older : List EngineLine) (tid : Tid) (n : ℕ) → Stands old start older → IsFree start older tid → n ≡ old.book.book.counters.counter + 1 →
     new.book.book ≡ begins tid old.book.book → old.book.room ≤ new.book.room → IsKept old.index new.index → Stands new start (Begins tid n ∷ older)
 stands_begins old new start older tid n s free number book room kept =
     let line = Begins tid n in
-    let right : IsRightLine start older line = (free, number ∙ ap (λ (m : Marks). m.counter + 1) s.keeps.keeps.marks) in
+    let right : IsRightLine start older line = (free, number ∙ ap (λ (m : Counters). m.counter + 1) s.keeps.keeps.counters) in
     let own : run_at start (line ∷ older) tid ≡ Some (begun tid n) = run_at_own start older line None free in
     stands_idle old new start older line s (unsealed_none _ free) (unsealed_live _ (begun tid n) own refl) (calls_well Validation old.book new.book start older line s.keeps right (book, room)) kept (λ key. refl)
     (λ run key at done. let bad : false ≡ true = ap (λ (r : Run). has_written key r) (same_Some (begun tid n) run (sym own ∙ at)) ∙ done in cc)
@@ -132,7 +132,7 @@ module _ (old : ValidationEngine) (start : Start) (older : List EngineLine) (s :
           ap (λ (i : Index). has_entry i q) index ∙ subst (λ (k : Key). has_entry (with_key key old.index) k ≡ true) (same_key-equal key q e) (added_has old.index key)
       by_key q kept false e done = kept.entries q (s.entries tid held.run q at done)
 
-  pub stands_took : (new : ValidationEngine) (n : ℕ) → held.run.sealed ≡ None → held.run.ticket ≡ None → n ≡ old.book.book.marks.published + 1 → new.book.book ≡ tickets tid n old.book.book →
+  pub stands_took : (new : ValidationEngine) (n : ℕ) → held.run.sealed ≡ None → held.run.ticket ≡ None → n ≡ old.book.book.counters.published + 1 → new.book.book ≡ tickets tid n old.book.book →
       IsKept old.index new.index → Stands new start (Takes tid (Ticket n) ∷ older)
   stands_took new n live ticketless is book kept =
       let k = s.keeps.keeps in
@@ -140,23 +140,23 @@ module _ (old : ValidationEngine) (start : Start) (older : List EngineLine) (s :
       let now : Run = record held.run { ticket = Some n } in
       let own : run_at start (line ∷ older) tid ≡ Some now = run_at_own start older line (Some held.run) at in
       let grant = Ticket (published start older + 1) in
-      let next : Ticket n ≡ grant = ap (λ (m : ℕ). Ticket m) (is ∙ ap (λ (m : Marks). m.published + 1) k.marks) in
+      let next : Ticket n ≡ grant = ap (λ (m : ℕ). Ticket m) (is ∙ ap (λ (m : Counters). m.published + 1) k.counters) in
       let right : IsRightLine start older line =
       (held.run, ((at, live, ticketless), next ∙ sym (ap (λ (kind : Engine). or_reply (ticket_stop kind start older held.run) grant) k.of_kind))) in
       stands_idle old new start older line s (unsealed_live _ held.run at live) (unsealed_live _ now own live) (calls_well Validation old.book new.book start older line s.keeps right book) kept (λ q. refl)
       (λ run q there done. kept.entries q (s.entries tid held.run q at (ap (λ (r : Run). has_written q r) (same_Some now run (sym own ∙ there)) ∙ done)))
 
   -- what refuses the sealing by the index
-  pub stop_is : held.run.sealed ≡ None → seal_stop_by old.index old.book.book.marks held.run ≡ seal_stop start.kind start older held.run
+  pub stop_is : held.run.sealed ≡ None → seal_stop_by old.index old.book.book.counters held.run ≡ seal_stop start.kind start older held.run
   stop_is live =
       let k = s.keeps.keeps in
-      seal_stop-rule old.index start older k.of_kind k.starts k.right s.sealed s.last held.run at_own live old.book.book.marks k.marks
+      seal_stop-rule old.index start older k.of_kind k.starts k.right s.sealed s.last held.run at_own live old.book.book.counters k.counters
 
   -- who passes has the next ticket, where it has one
-  pub next_ticket : held.run.sealed ≡ None → seal_stop_by old.index old.book.book.marks held.run ≡ None → IfSome held.run.ticket (λ t. t ≡ old.book.book.marks.published + 1)
+  pub next_ticket : held.run.sealed ≡ None → seal_stop_by old.index old.book.book.counters held.run ≡ None → IfSome held.run.ticket (λ t. t ≡ old.book.book.counters.published + 1)
   next_ticket live passed =
       let k = s.keeps.keeps in
-      passed_ticket old.index start older k.of_kind k.starts k.right s.sealed s.last held.run at_own live old.book.book.marks k.marks passed
+      passed_ticket old.index start older k.of_kind k.starts k.right s.sealed s.last held.run at_own live old.book.book.counters k.counters passed
 
   -- a live run ends: its sealing is refused, or it is aborted
   pub stands_dropped : (new : ValidationEngine) (line : EngineLine) → tid_of line ≡ tid → held.run.sealed ≡ None → KeepsRoomy Validation new.book start (line ∷ older) → changed line (Some held.run) ≡ None →
@@ -167,7 +167,7 @@ module _ (old : ValidationEngine) (start : Start) (older : List EngineLine) (s :
       stands_idle old new start older line s (unsealed_live _ held.run here live) (unsealed_none _ gone) keeps kept still
       (λ run key there done. let bad : None ≡ Some run = sym gone ∙ there in cc)
 
-  pub stands_refused : (new : ValidationEngine) (why : Why) → held.run.sealed ≡ None → seal_stop_by old.index old.book.book.marks held.run ≡ Some why → new.book.book ≡ drops tid old.book.book →
+  pub stands_refused : (new : ValidationEngine) (why : Why) → held.run.sealed ≡ None → seal_stop_by old.index old.book.book.counters held.run ≡ Some why → new.book.book ≡ drops tid old.book.book →
       IsKept old.index new.index → Stands new start (Refuses tid why ∷ older)
   stands_refused new why live refused book kept =
       let line = Refuses tid why in
@@ -175,7 +175,7 @@ module _ (old : ValidationEngine) (start : Start) (older : List EngineLine) (s :
       stands_dropped new line refl live (calls_well Validation old.book new.book start older line s.keeps right book) refl kept (λ key. refl)
 
   -- a run is sealed
-  pub stands_sealed : (new : ValidationEngine) (n : ℕ) (acts : List Access) → held.run.sealed ≡ None → seal_stop_by old.index old.book.book.marks held.run ≡ None → n ≡ old.book.book.marks.counter + 1 →
+  pub stands_sealed : (new : ValidationEngine) (n : ℕ) (acts : List Access) → held.run.sealed ≡ None → seal_stop_by old.index old.book.book.counters held.run ≡ None → n ≡ old.book.book.counters.counter + 1 →
       new.book.book ≡ seals tid n old.book.book → old.book.room + taken_by (held_in old.book.book.runs tid) ≤ new.book.room → acts ≡ held.run.acts →
       IsChanged (Sealed (record { tid = tid; rank = n })) acts old.index new.index → Stands new start (Seals tid n ∷ older)
   stands_sealed new n acts live passed is book room same_acts changed =
@@ -184,7 +184,7 @@ module _ (old : ValidationEngine) (start : Start) (older : List EngineLine) (s :
       let now : Run = record held.run { sealed = Some n } in
       let own : run_at start (line ∷ older) tid ≡ Some now = run_at_own start older line (Some held.run) at in
       let drawn : counter start older + 1 ≡ seal_number start.kind start older held.run = sym (ap (λ (kind : Engine). seal_number kind start older held.run) k.of_kind) in
-      let right : IsRightLine start older line = (held.run, ((at, live), sym (stop_is live) ∙ passed, is ∙ (ap (λ (m : Marks). m.counter + 1) k.marks ∙ drawn))) in
+      let right : IsRightLine start older line = (held.run, ((at, live), sym (stop_is live) ∙ passed, is ∙ (ap (λ (m : Counters). m.counter + 1) k.counters ∙ drawn))) in
       let keeps = calls_well Validation old.book new.book start older line s.keeps right (book, room) in
       let change = Sealed (record { tid = tid; rank = n }) in
       let mine : IsChanged change held.run.acts old.index new.index = subst (λ (a : List Access). IsChanged change a old.index new.index) same_acts changed in
@@ -216,7 +216,7 @@ module _ (old : ValidationEngine) (start : Start) (older : List EngineLine) (s :
       }
 
   -- by commit
-  pub stands_committed : (new : ValidationEngine) (n moment : ℕ) → held.run.sealed ≡ Some n → moment ≡ old.book.book.marks.counter → new.book.book ≡ commits tid old.book.book →
+  pub stands_committed : (new : ValidationEngine) (n moment : ℕ) → held.run.sealed ≡ Some n → moment ≡ old.book.book.counters.counter → new.book.book ≡ commits tid old.book.book →
       IsChanged (Committed (record { tid = held.run.tid; number = number held.run; moment = moment })) held.run.acts old.index new.index → Stands new start (Commits tid ∷ older)
   stands_committed new n moment sealed is book changed =
       let k = s.keeps.keeps in
@@ -224,7 +224,7 @@ module _ (old : ValidationEngine) (start : Start) (older : List EngineLine) (s :
       let right : IsRightLine start older line = (held.run, n, (at, sealed)) in
       let change = Committed (record { tid = held.run.tid; number = number held.run; moment = moment }) in
       let has = λ (key : Key) (done : has_written key held.run ≡ true). s.entries tid held.run key at done in
-      let counted : moment ≡ counter start older = is ∙ ap (λ (m : Marks). m.counter) k.marks in
+      let counted : moment ≡ counter start older = is ∙ ap (λ (m : Counters). m.counter) k.counters in
       stands_left new line n refl sealed (calls_well Validation old.book new.book start older line s.keeps right book) refl
       (λ key. sealed-changed change held.run.acts old.index new.index key changed (has key)) (λ key. entries-changed change held.run.acts old.index new.index key changed)
       (λ key. last-changed change held.run.acts old.index new.index key changed (has key)
@@ -267,13 +267,13 @@ stands_unsealed old new start older tid n open_run s book room here changed =
     }
 
 -- what the engine found to refuse a sealing, by the run that its book holds
-pub stop_found : (index : Index) (book : Book) (tid : Tid) (held other : Held) (marks : Marks) (stop : Option Why) → held_in book.runs tid ≡ Some held → held_in book.runs tid ≡ Some other → marks ≡ book.marks →
-    seal_stop_by index marks other.run ≡ stop → seal_stop_by index book.marks held.run ≡ stop
-stop_found index book tid held other marks stop found also is stopped =
-    ap (λ (h : Held). seal_stop_by index book.marks h.run) (same_Some held other (sym found ∙ also)) ∙ (ap (λ (m : Marks). seal_stop_by index m other.run) (sym is) ∙ stopped)
+pub stop_found : (index : Index) (book : Book) (tid : Tid) (held other : Held) (counters : Counters) (stop : Option Why) → held_in book.runs tid ≡ Some held → held_in book.runs tid ≡ Some other → counters ≡ book.counters →
+    seal_stop_by index counters other.run ≡ stop → seal_stop_by index book.counters held.run ≡ stop
+stop_found index book tid held other counters stop found also is stopped =
+    ap (λ (h : Held). seal_stop_by index book.counters h.run) (same_Some held other (sym found ∙ also)) ∙ (ap (λ (m : Counters). seal_stop_by index m other.run) (sym is) ∙ stopped)
 
 -- where the index lets the run pass, the rule does
-pub passes_rule : (engine : ValidationEngine) (tid : Tid) (held : Held) → held_in engine.book.book.runs tid ≡ Some held → held.run.sealed ≡ None → seal_stop_by engine.index engine.book.book.marks held.run ≡ None →
+pub passes_rule : (engine : ValidationEngine) (tid : Tid) (held : Held) → held_in engine.book.book.runs tid ≡ Some held → held.run.sealed ≡ None → seal_stop_by engine.index engine.book.book.counters held.run ≡ None →
     EachPast Stands engine (PassesRule tid)
 passes_rule engine tid held found live passed start lines s run there =
     let is = same_Some held.run run (sym (at engine start lines s tid held found) ∙ there) in

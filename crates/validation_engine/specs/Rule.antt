@@ -6,7 +6,7 @@ use Rattle.mdb_base.specs.declared.replies.Why.{Why}
 use Rattle.mdb_base.specs.declared.replies.Why.TheVariants.{Invalid}
 use Rattle.fed_rules.specs.Runs.{Access, Got, Wrote, Run}
 use Rattle.fed_rules.specs.Replies.{access_key, moved_by, or_why}
-use Rattle.run_book.specs.declared.marks.Marks.{Marks}
+use Rattle.run_book.specs.declared.counters.Counters.{Counters}
 use Rattle.run_book.specs.declared.rival.Rival.{Rival}
 use Rattle.validation_engine.specs.declared.index.Ended.{Ended}
 use Rattle.validation_engine.specs.declared.rule.Bad.{Bad}
@@ -47,10 +47,10 @@ invalid_by_bad None = None
 invalid_by_bad (Some bad) = Some (Invalid bad.by bad.key)
 
 -- whose ticket was published since this one was taken
-abbrev pub moved_in : Marks → Option ℕ → Option Why
-moved_in marks None = None
-moved_in marks (Some ticket) = cond (ticket == marks.published + 1) None (moved_by marks.owner)
+abbrev pub moved_in : Counters → Option ℕ → Option Why
+moved_in counters None = None
+moved_in counters (Some ticket) = cond (ticket == counters.published + 1) None (moved_by counters.owner)
 
 -- what refuses the sealing of a live run, if anything
-abbrev pub seal_stop_by : Index → Marks → Run → Option Why
-seal_stop_by index marks me = or_why (invalid_by_bad (least_bad_of (spoiler_of index me.age) me.acts)) (moved_in marks me.ticket)
+abbrev pub seal_stop_by : Index → Counters → Run → Option Why
+seal_stop_by index counters me = or_why (invalid_by_bad (least_bad_of (spoiler_of index me.age) me.acts)) (moved_in counters me.ticket)

@@ -3,7 +3,7 @@ use crate::index::{Change, Ended, Index, writers_in_doubt};
 use crate::rule::seal_stop;
 use engine_contract::{Kept, LocalEngine, SealErr, Sealed};
 use mdb_base::{Key, Memory, Puts, Reply, Tid};
-use run_book::{Granted, Marks, Rival, RunBook};
+use run_book::{Counters, Granted, Rival, RunBook};
 use std::alloc::Global;
 
 /// A local engine that grants every access, and tests a run when it is sealed. It keeps its runs in a book, and beside it for each
@@ -24,12 +24,12 @@ impl ValidationEngine {
     pub fn new(alloc: Global, rows: &Puts) -> Result<Self, Memory>
         ensures { IfOk result (λ engine. Stands engine (fresh_start Validation rows.now) []) }
     {
-        let marks = Marks {
+        let counters = Counters {
             counter: 0,
             published: 0,
             owner: None,
         };
-        let book = RunBook::start(alloc, rows, &[], marks)?;
+        let book = RunBook::start(alloc, rows, &[], counters)?;
         Ok(ValidationEngine {
             book,
             index: Index::new(alloc),
@@ -73,15 +73,15 @@ impl LocalEngine for ValidationEngine {
     }
 
     fn seal(&mut self, alloc: Global, tid: Tid) -> Result<Sealed, SealErr> {
-        let marks = self.book.marks();
+        let counters = self.book.counters();
         let run = self.book.run(tid);
-        if let Some(why) = seal_stop(&self.index, marks, run) {
+        if let Some(why) = seal_stop(&self.index, counters, run) {
             let _refused = self.book.take_out(tid);
             return Err(SealErr::Refused(why));
         }
         let writes = run.puts(alloc)?;
         let ticket = run.ticket();
-        let number = marks.counter + 1;
+        let number = counters.counter + 1;
         self.book.seal(alloc, tid, number)?;
         let writer = Rival { tid, rank: number };
         self.index
@@ -107,7 +107,7 @@ impl LocalEngine for ValidationEngine {
         let ended = Ended {
             tid: run.tid(),
             number: run.number(),
-            moment: self.book.marks().counter,
+            moment: self.book.counters().counter,
         };
         self.index.change(&run, Change::Committed(ended));
     }
@@ -128,13 +128,13 @@ impl LocalEngine for ValidationEngine {
         published: u64,
         owner: Option<Tid>,
     ) -> Result<(), Memory> {
-        let marks = Marks {
+        let counters = Counters {
             counter,
             published,
             owner,
         };
         let index = writers_in_doubt(alloc, doubtful)?;
-        self.book = RunBook::start(alloc, rows, doubtful, marks)?;
+        self.book = RunBook::start(alloc, rows, doubtful, counters)?;
         self.index = index;
         Ok(())
     }

@@ -4,7 +4,7 @@ ghost use Rattle.validation_engine.specs.Rule.{ended_since as ended_after, spoil
 
 use crate::index::{Ended, Index};
 use mdb_base::{Key, Tid, Why};
-use run_book::{Granted, HeldRun, Marks, Rival};
+use run_book::{Counters, Granted, HeldRun, Rival};
 
 /// A key that is bad for a run, and the transaction that makes it so.
 #[derive(Clone, Copy, Debug, PartialEq, Eq)]
@@ -67,24 +67,26 @@ fn least_bad(index: &Index, run: &HeldRun) -> Option<Bad>
 }
 
 /// Whose ticket was published since this one was taken, if another one was.
-fn moved(marks: Marks, ticket: Option<u64>) -> Option<Why>
-    ensures { result ≡ moved_in marks ticket }
+fn moved(counters: Counters, ticket: Option<u64>) -> Option<Why>
+    ensures { result ≡ moved_in counters ticket }
 {
-    if marks.published.checked_add(1) == Some(ticket?) {
+    if counters.published.checked_add(1) == Some(ticket?) {
         return None;
     }
-    Some(Why::TicketMoved { by: marks.owner? })
+    Some(Why::TicketMoved {
+        by: counters.owner?,
+    })
 }
 
 /// What refuses the sealing of a live run, if anything: it is invalid, or its ticket isn't the next one any more.
-pub(crate) fn seal_stop(index: &Index, marks: Marks, run: &HeldRun) -> Option<Why>
-    ensures { result ≡ seal_stop_by index.now marks run.now.run }
+pub(crate) fn seal_stop(index: &Index, counters: Counters, run: &HeldRun) -> Option<Why>
+    ensures { result ≡ seal_stop_by index.now counters run.now.run }
 {
     match least_bad(index, run) {
         Some(bad) => Some(Why::Invalid {
             by: bad.by,
             key: bad.key,
         }),
-        None => moved(marks, run.ticket()),
+        None => moved(counters, run.ticket()),
     }
 }

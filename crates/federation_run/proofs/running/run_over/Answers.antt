@@ -15,7 +15,7 @@ pub open_all-requires-clause-told : goal.open_all-requires-clause-told
 open_all-requires-clause-told g c = c.requires.told
 
 pub open_all-requires-clause-nine : goal.open_all-requires-clause-nine
-open_all-requires-clause-nine g c = sym (length-map c.args.disks.now.items g.D.Disk.seen) ∙ c.requires.crew.others.nine
+open_all-requires-clause-nine g c = sym (length-map c.args.disks.now.items g.D.Disk.seen) ∙ c.requires.actors.others.nine
 
 pub open_all-requires-clause-none : goal.open_all-requires-clause-none
 open_all-requires-clause-none g c = c.in-Ok.ensures.seats.0
@@ -25,7 +25,7 @@ open_all-requires-clause-room g c = c.in-Ok.ensures.seats.1
 
 pub open_all-requires-clause-opens : goal.open_all-requires-clause-opens
 open_all-requires-clause-opens g c =
-    can_seat_all g.D.Disk.tells (map g.D.Disk.seen c.args.disks.now.items) c.args.scenario.now c.in-Ok.ensures.whole c.args.crew c.requires.crew g.N.Plan.sites g.N.Plan.coordinator g.N.Wires.rings c.requires.named
+    can_seat_all g.D.Disk.tells (map g.D.Disk.seen c.args.disks.now.items) c.args.scenario.now c.in-Ok.ensures.whole c.args.actors c.requires.actors g.N.Plan.sites g.N.Plan.coordinator g.N.Wires.rings c.requires.named
 
 pub take_last-first-requires : goal.take_last-first-requires
 take_last-first-requires g c = one_there (length c.open_all.new.disks.items) c.open_all.new.disks.len c.open_all.ensures.one c.open_all.new.disks.ok.0
@@ -39,7 +39,7 @@ new-requires-clause-opens g c =
     none_left (length c.open_all.new.disks.items) (length c.take_last-first.new.self.items) c.open_all.ensures.one
     (length_out c.open_all.new.disks.items c.take_last-first.new.self.items c.take_last-first.result c.take_last-first.ensures.items) in
     let first = alone_first c.take_last-first.new.self.items c.open_all.new.disks.items c.take_last-first.result empty c.take_last-first.ensures.items in
-    can_open_coord g.D.Disk.tells (map g.D.Disk.seen c.args.disks.now.items) c.args.scenario.now c.in-Ok.ensures.whole c.args.crew c.requires.crew g.N.Plan.sites g.N.Plan.coordinator g.N.Wires.rings c.requires.named
+    can_open_coord g.D.Disk.tells (map g.D.Disk.seen c.args.disks.now.items) c.args.scenario.now c.in-Ok.ensures.whole c.args.actors c.requires.actors g.N.Plan.sites g.N.Plan.coordinator g.N.Wires.rings c.requires.named
     (g.D.Disk.seen c.take_last-first.result) (mapped_at g.D.Disk.seen c.args.disks.now.items 0 c.take_last-first.result (sym c.open_all.ensures.first ∙ first))
 
 pub run_tasks-requires-clause-room : goal.run_tasks-requires-clause-room
@@ -53,7 +53,7 @@ run_tasks-requires-clause-some g c κs lives = c.in-Ok.ensures.tasks
 pub push_reserved-requires : goal.push_reserved-requires
 push_reserved-requires g c =
     let old = c.args.disks.now in
-    let nine = sym (length-map old.items g.D.Disk.seen) ∙ c.requires.crew.others.nine in
+    let nine = sym (length-map old.items g.D.Disk.seen) ∙ c.requires.actors.others.nine in
     let empty =
     none_left (length c.open_all.new.disks.items) (length c.take_last-first.new.self.items) c.open_all.ensures.one
     (length_out c.open_all.new.disks.items c.take_last-first.new.self.items c.take_last-first.result c.take_last-first.ensures.items) in
@@ -73,7 +73,7 @@ close_all-requires-clause-one g c =
 pub close_all-requires-clause-room : goal.close_all-requires-clause-room
 close_all-requires-clause-room g c =
     let old = c.args.disks.now in
-    let nine = sym (length-map old.items g.D.Disk.seen) ∙ c.requires.crew.others.nine in
+    let nine = sym (length-map old.items g.D.Disk.seen) ∙ c.requires.actors.others.nine in
     room_kept (length old.items) old.len old.cap c.open_all.new.disks.cap c.push_reserved.new.self.cap nine old.ok.0 old.ok.1 c.open_all.ensures.room (c.push_reserved.ensures.capacity ∙ c.take_last-first.ensures.capacity)
 
 pub close_all-requires-clause-none : goal.close_all-requires-clause-none
@@ -84,10 +84,10 @@ close_all-requires-clause-lefts g c = c.in-Ok.ensures.sites.1
 
 pub returns-clause-left : goal.returns-clause-left
 returns-clause-left g c =
-    let nine = sym (length-map c.args.disks.now.items g.D.Disk.seen) ∙ c.requires.crew.others.nine in
+    let nine = sym (length-map c.args.disks.now.items g.D.Disk.seen) ∙ c.requires.actors.others.nine in
     let empty =
     none_left (length c.open_all.new.disks.items) (length c.take_last-first.new.self.items) c.open_all.ensures.one
     (length_out c.open_all.new.disks.items c.take_last-first.new.self.items c.take_last-first.result c.take_last-first.ensures.items) in
-    has_left g.D.Disk.tells g.D.Disk.seen c.args.scenario.now g.N.Plan.sites g.N.Plan.coordinator g.N.Wires.rings c.args.crew c.args.disks.now.items c.take_last-first.new.self.items c.push_reserved.new.self.items c.close_all.new.disks.items
-    c.open_all.new.seats.items c.finish-manager.result c.close_all.new.lefts c.requires.crew nine empty c.push_reserved.ensures.items c.close_all.ensures.nine c.close_all.ensures.first c.finish-manager.ensures.held c.close_all.ensures.held
+    has_left g.D.Disk.tells g.D.Disk.seen c.args.scenario.now g.N.Plan.sites g.N.Plan.coordinator g.N.Wires.rings c.args.actors c.args.disks.now.items c.take_last-first.new.self.items c.push_reserved.new.self.items c.close_all.new.disks.items
+    c.open_all.new.seats.items c.finish-manager.result c.close_all.new.lefts c.requires.actors nine empty c.push_reserved.ensures.items c.close_all.ensures.nine c.close_all.ensures.first c.finish-manager.ensures.held c.close_all.ensures.held
     c.open_all.ensures.seats c.close_all.ensures.back

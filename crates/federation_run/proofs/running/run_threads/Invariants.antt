@@ -7,4 +7,4 @@ abbrev pub ghosts-run_over-N-Plan : goal.ghosts-run_over-N-Plan
 ghosts-run_over-N-Plan g a = record { sites = site_plans a.scenario.now (faults_of (map g.D.Disk.seen a.disks.now.items)); coordinator = coord_plan a.scenario.now (faults_of (map g.D.Disk.seen a.disks.now.items)) }
 
 abbrev pub ghosts-run_over-N-Wires : goal.ghosts-run_over-N-Wires
-ghosts-run_over-N-Wires g a = record { rings = wires_of a.crew.ports.items a.crew.berths.items }
+ghosts-run_over-N-Wires g a = record { rings = wires_of a.actors.ports.items a.actors.wired_sites.items }

@@ -5,4 +5,4 @@ use Rattle.run_book.specs.Named.{by_tid}
 use Rattle.run_book.proofs.run_map.restored.Given as goal
 
 abbrev pub invariant-loop-kept : goal.invariant-loop-kept
-invariant-loop-kept l = with_restored l.marks (drop l.kept-index l.doubtful) (from_entries (by_tid l.runs.entries)) ≡ with_restored l.marks l.doubtful empty
+invariant-loop-kept l = with_restored l.counters (drop l.kept-index l.doubtful) (from_entries (by_tid l.runs.entries)) ≡ with_restored l.counters l.doubtful empty

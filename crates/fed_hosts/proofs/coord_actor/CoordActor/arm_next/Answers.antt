@@ -3,7 +3,7 @@ use Rattle.fed_rules.specs.declared.commands.Command.TheVariants as Cmd
 use Rattle.fed_rules.specs.declared.events.CoordEvent.TheVariants as Ev
 use Rattle.global_manager.specs.declared.manager.GlobalManager.{GlobalManager}
 use Rattle.global_manager.specs.Stands.{Sends, Stands}
-use Rattle.fed_hosts.specs.declared.coord_actor.CoordTold.{CoordTold}
+use Rattle.fed_hosts.specs.declared.coord_actor.CoordLineParts.{CoordLineParts}
 use Rattle.host_laws.specs.CoordTurns.{coord_past_of}
 use Rattle.fed_hosts.proofs.CoordArmed.{coord_arms, coord_as_many, coord_unarmed, coord_unarmed_full, coord_unarmed_left, coord_unarmed_set, noted_added}
 use Rattle.fed_hosts.proofs.coord_actor.CoordActor.arm_next.Goals as goal
@@ -35,7 +35,7 @@ returns-clause-armed g c tells seen rings plan turns logged some planned stood =
     let old = c.args.self.now in
     let new = c.note.new.self in
     let stop = c.stop_at-stop.result in
-    let told : CoordTold = record { command = Cmd.Trip stop.actor stop.calls stop.cut; answer = c.arm-answer.result; sends = []; after = 0 } in
+    let told : CoordLineParts = record { command = Cmd.Trip stop.actor stop.calls stop.cut; answer = c.arm-answer.result; sends = []; after = 0 } in
     let set = c.is_armed.ensures plan.terms past (c.core.ensures.stood tells seen plan.terms plan.programs past stood).holds in
     let same = coord_as_many plan turns old logged in
     coord_arms test tells seen plan turns rings old new stop told logged some planned

@@ -5,7 +5,7 @@ use Rattle.mdb_base.proofs.OptionLaws.{none_left}
 use Rattle.fed_rules.specs.declared.commands.Command.TheVariants as Cmd
 use Rattle.fed_rules.specs.declared.events.CoordEvent.TheVariants as Ev
 use Rattle.global_manager.specs.declared.asks.CoordAsk.TheVariants as Coord
-use Rattle.fed_hosts.specs.declared.coord_actor.CoordTold.{CoordTold}
+use Rattle.fed_hosts.specs.declared.coord_actor.CoordLineParts.{CoordLineParts}
 use Rattle.fed_hosts.specs.declared.ports.Port.{Port}
 use Rattle.host_laws.specs.CoordHearing.{BearsFrom}
 use Rattle.host_laws.specs.CoordTurns.{coord_past_of}
@@ -91,7 +91,7 @@ carry-requires-clause-ready g c =
     let envelope = c.in-Some.envelope in
     let step = c.in-Ok.step in
     let mid = record old { manager = c.ask.new.self; disk = c.ask.new.disk } in
-    let told : CoordTold = record { command = Cmd.Take from.ends.site envelope.index; answer = step.answer; sends = step.sends; after = envelope.stamp } in
+    let told : CoordLineParts = record { command = Cmd.Take from.ends.site envelope.index; answer = step.answer; sends = step.sends; after = envelope.stamp } in
     coord_line_ready mid plan k.turns told (coord_kept_for old c.ask.new.self c.ask.new.disk plan k.turns k.kept) (record { lines = c.requires.room.lines; ports = c.requires.room.ports; places = c.requires.room.places })
     (omega (arith, c.if-envelope-ge-MOST_STAMP.false))
 
@@ -147,7 +147,7 @@ returns-in-Ok-clause-keeps g c =
     let step = c.in-Ok.step in
     let bears : BearsFrom arrived.packet envelope = record { in_range = c.in-Some.ensures.in_range; spelled = c.in-Some.ensures.spelled; small = omega (arith, c.if-envelope-ge-MOST_STAMP.false) } in
     let sends = c.in-Ok.ensures.served plan.terms plan.programs past k.standing among in
-    let told : CoordTold = record { command = Cmd.Take from.ends.site envelope.index; answer = step.answer; sends = step.sends; after = envelope.stamp } in
+    let told : CoordLineParts = record { command = Cmd.Take from.ends.site envelope.index; answer = step.answer; sends = step.sends; after = envelope.stamp } in
     let line = coord_take_line test tells seen plan rings old c.ask.new.self c.ask.new.disk c.carry.new.self c.requires.few (clean _ _ step c.in-Ok.ensures.cause) c.carry.ensures.beside c.carry.ensures.moved_on arrived held from envelope step at bears sends told refl
     (c.carry.ensures.carried tells (seen c.ask.new.disk)) in
     line.keeps
@@ -172,7 +172,7 @@ returns-in-Ok-clause-takes g c =
     let step = c.in-Ok.step in
     let bears : BearsFrom arrived.packet envelope = record { in_range = c.in-Some.ensures.in_range; spelled = c.in-Some.ensures.spelled; small = omega (arith, c.if-envelope-ge-MOST_STAMP.false) } in
     let sends = c.in-Ok.ensures.served plan.terms plan.programs past k.standing among in
-    let told : CoordTold = record { command = Cmd.Take from.ends.site envelope.index; answer = step.answer; sends = step.sends; after = envelope.stamp } in
+    let told : CoordLineParts = record { command = Cmd.Take from.ends.site envelope.index; answer = step.answer; sends = step.sends; after = envelope.stamp } in
     let line = coord_take_line test tells seen plan rings old c.ask.new.self c.ask.new.disk c.carry.new.self c.requires.few (clean _ _ step c.in-Ok.ensures.cause) c.carry.ensures.beside c.carry.ensures.moved_on arrived held from envelope step at bears sends told refl
     (c.carry.ensures.carried tells (seen c.ask.new.disk)) in
     let p = k.planned.each arrived.place from at in

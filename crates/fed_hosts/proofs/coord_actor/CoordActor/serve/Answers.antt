@@ -4,7 +4,7 @@ use Rattle.fed_rules.specs.CoordPast.{CoordPast}
 use Rattle.coord_tables.specs.Terms.{Terms}
 use Rattle.global_manager.proofs.Fit.{recalled}
 use Rattle.global_manager.specs.Stands.{OwnPrograms, Stands}
-use Rattle.fed_hosts.specs.declared.coord_actor.CoordTold.{CoordTold}
+use Rattle.fed_hosts.specs.declared.coord_actor.CoordLineParts.{CoordLineParts}
 use Rattle.fed_hosts.specs.CoordRooms.{HasCoordRoom}
 use Rattle.fed_hosts.specs.CoordServing.{HasCoordFailed, request_of_call}
 use Rattle.host_laws.specs.CoordTurns.{coord_past_of}
@@ -142,7 +142,7 @@ carry-requires-clause-ready g c =
     let k = coord_keeps_same test tells seen plan rings c.args.self.now ready c.reserve.ensures.same c.requires.keeps in
     let mid = record ready { manager = c.ask.new.self; disk = c.ask.new.disk } in
     let step = c.in_ok-step.step in
-    let told : CoordTold = record { command = c.command.result; answer = step.answer; sends = step.sends; after = 0 } in
+    let told : CoordLineParts = record { command = c.command.result; answer = step.answer; sends = step.sends; after = 0 } in
     let room : HasCoordRoom ready = ok_so c.reserve.result (sym c.is_err.ensures.value ∙ c.if-is_err.false) c.reserve.ensures.room in
     coord_line_ready mid plan k.turns told (coord_kept_for ready c.ask.new.self c.ask.new.disk plan k.turns k.kept) (record { lines = room.lines; ports = room.ports; places = room.places }) (omega arith)
 
@@ -177,7 +177,7 @@ returns-clause-keeps g c =
     let known = c.if-is_unknown.ensures.known refl plan.terms plan.programs past recalls in
     let may = c.if-is_last.ensures.left refl plan.terms plan.programs past recalls in
     let count = ap length c.reserve.ensures.same.lines in
-    let told : CoordTold = record { command = c.command.result; answer = step.answer; sends = step.sends; after = 0 } in
+    let told : CoordLineParts = record { command = c.command.result; answer = step.answer; sends = step.sends; after = 0 } in
     let line = coord_call_line test tells seen plan rings ready c.ask.new.self c.ask.new.disk c.carry.new.self c.args.call told k refl c.command.ensures served known may
     (omega (arith, count, old.lines.ok.0, c.len.ensures, c.if-len-ge-MOST_LINES.false)) (clean _ _ step c.in_ok-step.ensures.cause) (c.carry.ensures.carried tells (seen c.ask.new.disk)) c.carry.ensures.beside c.carry.ensures.moved_on in
     line.keeps
@@ -202,7 +202,7 @@ returns-clause-served g c =
     let known = c.if-is_unknown.ensures.known refl plan.terms plan.programs past recalls in
     let may = c.if-is_last.ensures.left refl plan.terms plan.programs past recalls in
     let count = ap length c.reserve.ensures.same.lines in
-    let told : CoordTold = record { command = c.command.result; answer = step.answer; sends = step.sends; after = 0 } in
+    let told : CoordLineParts = record { command = c.command.result; answer = step.answer; sends = step.sends; after = 0 } in
     let line = coord_call_line test tells seen plan rings ready c.ask.new.self c.ask.new.disk c.carry.new.self c.args.call told k refl c.command.ensures served known may
     (omega (arith, count, old.lines.ok.0, c.len.ensures, c.if-len-ge-MOST_LINES.false)) (clean _ _ step c.in_ok-step.ensures.cause) (c.carry.ensures.carried tells (seen c.ask.new.disk)) c.carry.ensures.beside c.carry.ensures.moved_on in
     record {

@@ -3,7 +3,7 @@ use Rattle.fed_rules.specs.declared.commands.Command.TheVariants as Cmd
 use Rattle.fed_rules.specs.declared.events.CoordEvent.TheVariants as Ev
 use Rattle.fed_rules.specs.Requests.{Submits}
 use Rattle.global_manager.specs.declared.asks.CoordAsk.TheVariants as Coord
-use Rattle.fed_hosts.specs.declared.coord_actor.CoordTold.{CoordTold}
+use Rattle.fed_hosts.specs.declared.coord_actor.CoordLineParts.{CoordLineParts}
 use Rattle.fed_hosts.specs.CoordServing.{HasCoordFailed}
 use Rattle.host_laws.specs.CoordTurns.{coord_past_of}
 use Rattle.fed_hosts.proofs.CoordSame.{coord_kept_for, same_coord}
@@ -42,7 +42,7 @@ carry-requires-clause-ready g c =
     let k = c.requires.keeps in
     let old = c.args.self.now in
     let mid = record old { manager = c.ask.new.self; disk = c.ask.new.disk } in
-    let told : CoordTold = record { command = Cmd.Back 0; answer = c.in_ok-step.step.answer; sends = c.in_ok-step.step.sends; after = 0 } in
+    let told : CoordLineParts = record { command = Cmd.Back 0; answer = c.in_ok-step.step.answer; sends = c.in_ok-step.step.sends; after = 0 } in
     coord_line_ready mid plan k.turns told (coord_kept_for old c.ask.new.self c.ask.new.disk plan k.turns k.kept) (record { lines = c.requires.room.lines; ports = c.requires.room.ports; places = c.requires.room.places }) (omega arith)
 
 pub carry-requires-clause-last : goal.carry-requires-clause-last
@@ -59,7 +59,7 @@ returns-clause-keeps g c =
     let old = c.args.self.now in
     let step = c.in_ok-step.step in
     let served = c.in_ok-step.ensures.served plan.terms plan.programs (coord_past_of plan k.turns) k.standing tt in
-    let told : CoordTold = record { command = Cmd.Back 0; answer = step.answer; sends = step.sends; after = 0 } in
+    let told : CoordLineParts = record { command = Cmd.Back 0; answer = step.answer; sends = step.sends; after = 0 } in
     (coord_start_line test tells seen plan rings old c.ask.new.self c.ask.new.disk c.carry.new.self c.requires.few (clean _ _ step c.in_ok-step.ensures.cause) c.carry.ensures.beside c.carry.ensures.moved_on k step served told refl
     (c.carry.ensures.carried tells (seen c.ask.new.disk))).keeps
 
@@ -74,7 +74,7 @@ returns-clause-turned g c =
     let old = c.args.self.now in
     let step = c.in_ok-step.step in
     let served = c.in_ok-step.ensures.served plan.terms plan.programs (coord_past_of plan k.turns) k.standing tt in
-    let told : CoordTold = record { command = Cmd.Back 0; answer = step.answer; sends = step.sends; after = 0 } in
+    let told : CoordLineParts = record { command = Cmd.Back 0; answer = step.answer; sends = step.sends; after = 0 } in
     let line = coord_start_line test tells seen plan rings old c.ask.new.self c.ask.new.disk c.carry.new.self c.requires.few (clean _ _ step c.in_ok-step.ensures.cause) c.carry.ensures.beside c.carry.ensures.moved_on k step served told refl
     (c.carry.ensures.carried tells (seen c.ask.new.disk)) in
     record { line = record { answer = step.answer; adds = line.adds; says = refl }; others = line.view }

@@ -4,7 +4,7 @@ use Rattle.fed_rules.specs.declared.events.SiteEvent.TheVariants as Ev
 use Rattle.fed_rules.specs.Requests.{Submits}
 use Rattle.local_dbms.specs.declared.dbms.LocalDbms.{LocalDbms}
 use Rattle.local_dbms.specs.Stands.{Serves, Stands}
-use Rattle.fed_hosts.specs.declared.site_actor.Told.{Told}
+use Rattle.fed_hosts.specs.declared.site_actor.LineParts.{LineParts}
 use Rattle.host_laws.specs.Turns.{past_of}
 use Rattle.fed_hosts.proofs.Armed.{arms, as_many, unarmed, unarmed_full, unarmed_left, unarmed_set}
 use Rattle.fed_hosts.proofs.site_actor.SiteActor.arm_next.Goals as goal
@@ -37,7 +37,7 @@ returns-clause-armed g c tells seen plan turns logged some stops site stood =
     let old = c.args.self.now in
     let new = c.keep.new.self in
     let stop = c.stop_at-stop.result in
-    let told : Told = record { command = Cmd.Trip stop.actor stop.calls stop.cut; answer = c.arm-answer.result; send = None; after = 0 } in
+    let told : LineParts = record { command = Cmd.Trip stop.actor stop.calls stop.cut; answer = c.arm-answer.result; send = None; after = 0 } in
     let set = c.is_armed.ensures plan.home past (c.core.ensures.stood tells seen plan.home plan.programs past stood).holds in
     let same = as_many plan turns old logged in
     let a = c.keep.ensures.added in

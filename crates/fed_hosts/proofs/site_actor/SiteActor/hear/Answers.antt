@@ -4,7 +4,7 @@ use Rattle.mdb_base.proofs.OptionLaws.{nothing_is, none_left}
 use Rattle.fed_rules.specs.declared.commands.Command.TheVariants as Cmd
 use Rattle.local_dbms.proofs.Fit.{recalled}
 use Rattle.site_core.specs.Made.{about}
-use Rattle.fed_hosts.specs.declared.site_actor.Told.{Told}
+use Rattle.fed_hosts.specs.declared.site_actor.LineParts.{LineParts}
 use Rattle.host_laws.specs.Hearing.{Bears}
 use Rattle.host_laws.specs.Turns.{past_of}
 use Rattle.host_laws.proofs.SiteRanges.{about_in_range}
@@ -67,7 +67,7 @@ carry-requires-clause-ready g c =
     let k = c.requires.keeps.keeps in
     let old = c.args.self.now in
     let mid = record old { dbms = c.ask.new.self; disk = c.ask.new.disk } in
-    let told : Told = record { command = Cmd.Give old.ends.site c.in-Some.envelope.index; answer = c.in-Ok.step.answer; send = c.in-Ok.step.sends; after = c.in-Some.envelope.stamp } in
+    let told : LineParts = record { command = Cmd.Give old.ends.site c.in-Some.envelope.index; answer = c.in-Ok.step.answer; send = c.in-Ok.step.sends; after = c.in-Some.envelope.stamp } in
     line_ready g.E.LocalEngine.stands g.D.Disk.tells g.D.Disk.seen g.N.Plan.sites g.N.Wires.rings mid k.plan k.turns told (kept_beside old c.ask.new.self c.ask.new.disk k.plan k.turns k.kept)
     (record { lines = c.requires.room.lines; sent = c.requires.room.sent; outlet = c.requires.room.outlet }) (omega (arith, c.if-envelope-ge-MOST_STAMP.false))
 

@@ -4,7 +4,7 @@ use Rattle.fed_rules.specs.declared.events.SiteEvent.TheVariants as Ev
 use Rattle.fed_rules.specs.Requests.{Submits}
 use Rattle.local_dbms.specs.declared.asks.SiteAsk.TheVariants as At
 use Rattle.scripted_link.specs.Inlets.{taken}
-use Rattle.fed_hosts.specs.declared.site_actor.Told.{Told}
+use Rattle.fed_hosts.specs.declared.site_actor.LineParts.{LineParts}
 use Rattle.fed_hosts.specs.Serving.{HasFailed}
 use Rattle.host_laws.specs.Turns.{past_of}
 use Rattle.fed_hosts.specs.Views.{view_of}
@@ -57,7 +57,7 @@ carry-requires-clause-ready g c =
     let k = c.requires.keeps in
     let old = record c.args.self.now { idle = 0 } in
     let mid = record old { dbms = c.ask.new.self; disk = c.ask.new.disk } in
-    let told : Told = record { command = Cmd.Ask c.args.self.now.ends.site c.at.result.now.tid; answer = c.in_ok-step.step.answer; send = c.in_ok-step.step.sends; after = 0 } in
+    let told : LineParts = record { command = Cmd.Ask c.args.self.now.ends.site c.at.result.now.tid; answer = c.in_ok-step.step.answer; send = c.in_ok-step.step.sends; after = 0 } in
     line_ready g.E.LocalEngine.stands g.D.Disk.tells g.D.Disk.seen g.N.Plan.sites g.N.Wires.rings mid k.plan k.turns told
     (kept_beside old c.ask.new.self c.ask.new.disk k.plan k.turns
     (kept_same c.args.self.now old (record { dbms = refl; disk = refl; site = refl; inlet = refl; wire = refl; offers = refl; waiting = refl; free = refl; stops = refl; armed = refl; lines = refl; sent = refl; last = refl }) k.plan k.turns k.kept))

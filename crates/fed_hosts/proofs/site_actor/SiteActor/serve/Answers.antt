@@ -5,7 +5,7 @@ use Rattle.scripted_link.specs.Inlets.{taken}
 use Rattle.local_dbms.specs.Asks.{site_request}
 use Rattle.local_dbms.specs.Stands.{Stands}
 use Rattle.local_dbms.proofs.Fit.{recalled}
-use Rattle.fed_hosts.specs.declared.site_actor.Told.{Told}
+use Rattle.fed_hosts.specs.declared.site_actor.LineParts.{LineParts}
 use Rattle.fed_hosts.specs.Serving.{HasFailed}
 use Rattle.host_laws.specs.Turns.{past_of}
 use Rattle.fed_hosts.specs.Verbs.{command_of, rule_of}
@@ -136,7 +136,7 @@ returns-clause-keeps g c =
     (c.in_ok-step.ensures.served k.plan.home k.plan.programs past k.standing may) in
     let own : IsSome (k.plan.programs c.args.tx) = sym (c.if-not-is_own.ensures k.plan.home k.plan.programs past (recalled stands tells old.dbms (seen old.disk) k.plan.home k.plan.programs past now.standing)) in
     let count = ap length c.reserve.ensures.same.lines in
-    let told : Told = record { command = c.command.result; answer = c.in_ok-step.step.answer; send = None; after = 0 } in
+    let told : LineParts = record { command = c.command.result; answer = c.in_ok-step.step.answer; send = None; after = 0 } in
     (call_line stands tells seen sites rings ready c.ask.new.self c.ask.new.disk c.carry.new.self c.args.verb c.args.tx told k refl c.command.ensures served own
     (λ begin. c.if-is_spent.ensures.left refl tells (seen old.disk) k.plan.home k.plan.programs past now.standing own begin)
     (omega (arith, count, old.lines.ok.0, c.len.ensures, c.if-len-ge-MOST_LINES.false)) (clean _ _ c.in_ok-step.step c.in_ok-step.ensures.cause) (c.carry.ensures.carried tells (seen c.ask.new.disk)) c.carry.ensures.beside c.carry.ensures.moved_on).keeps
@@ -160,7 +160,7 @@ returns-clause-served g c =
     (c.in_ok-step.ensures.served k.plan.home k.plan.programs past k.standing may) in
     let own : IsSome (k.plan.programs c.args.tx) = sym (c.if-not-is_own.ensures k.plan.home k.plan.programs past (recalled stands tells old.dbms (seen old.disk) k.plan.home k.plan.programs past now.standing)) in
     let count = ap length c.reserve.ensures.same.lines in
-    let told : Told = record { command = c.command.result; answer = c.in_ok-step.step.answer; send = None; after = 0 } in
+    let told : LineParts = record { command = c.command.result; answer = c.in_ok-step.step.answer; send = None; after = 0 } in
     let line = call_line stands tells seen sites rings ready c.ask.new.self c.ask.new.disk c.carry.new.self c.args.verb c.args.tx told k refl c.command.ensures served own
     (λ begin. c.if-is_spent.ensures.left refl tells (seen old.disk) k.plan.home k.plan.programs past now.standing own begin)
     (omega (arith, count, old.lines.ok.0, c.len.ensures, c.if-len-ge-MOST_LINES.false)) (clean _ _ c.in_ok-step.step c.in_ok-step.ensures.cause) (c.carry.ensures.carried tells (seen c.ask.new.disk)) c.carry.ensures.beside c.carry.ensures.moved_on in

@@ -8,7 +8,7 @@ pub returns : goal.returns
 returns c =
     let sum = c.args.sum.now in
     record {
-      marks = c.of.ensures;
+      counters = c.of.ensures;
       holds = record {
         site = refl;
         engine = refl;

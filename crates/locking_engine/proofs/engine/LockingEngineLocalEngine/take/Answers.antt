@@ -29,7 +29,7 @@ pub run-requires : goal.run-requires
 run-requires c =
     let book = c.args.self.now.book.book in
     let here = ticketless_held Locking book c.requires.start c.requires.lines c.args.tid c.requires.stood.keeps.keeps c.requires.holds in
-    let change = with_ticket (book.marks.published + 1) in
+    let change = with_ticket (book.counters.published + 1) in
     some-found _ (change here.held)
     (ap (λ (b : Book). held_in b.runs c.args.tid) c.in_ok-ticket.ensures.taken
     ∙ (held_in-changed_own book.runs c.args.tid change ∙ ap (λ (o : Option Held). map_some change o) here.found))
@@ -40,7 +40,7 @@ returns-clause-answered c =
     let book = old.book.book in
     let here = ticketless_held Locking book c.requires.start c.requires.lines c.args.tid c.requires.stood.keeps.keeps c.requires.holds in
     let free = of_found (λ h. None ≡ stop_by h.run.age old.taker) _ here.held here.found c.in_default.ensures in
-    let change = with_ticket (book.marks.published + 1) in
+    let change = with_ticket (book.counters.published + 1) in
     let then : held_in c.take.new.self.book.runs c.args.tid ≡ Some (change here.held) =
     ap (λ (b : Book). held_in b.runs c.args.tid) c.in_ok-ticket.ensures.taken
     ∙ (held_in-changed_own book.runs c.args.tid change ∙ ap (λ (o : Option Held). map_some change o) here.found) in

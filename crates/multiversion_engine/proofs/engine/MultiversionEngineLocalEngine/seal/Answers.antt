@@ -12,7 +12,7 @@ pub seal-requires-clause-next : goal.seal-requires-clause-next
 seal-requires-clause-next c =
     let old = c.args.self.now in
     let here = sealable_held Multiversion old.book.book c.requires.start c.requires.lines c.args.tid c.requires.stood.keeps.keeps c.requires.holds in
-    if_found (λ h. IfSome h.run.ticket (λ t. t ≡ old.book.book.marks.published + 1)) _ here.held here.found
+    if_found (λ h. IfSome h.run.ticket (λ t. t ≡ old.book.book.counters.published + 1)) _ here.held here.found
     (next_ticket old c.requires.start c.requires.lines c.requires.stood c.args.tid here.held here.found here.live)
 
 pub returns-clause-sealed : goal.returns-clause-sealed

@@ -7,7 +7,7 @@ use Rattle.run_book.proofs.book.RunBook.start.Goals as goal
 
 pub invariant_of-result : goal.invariant_of-result
 invariant_of-result c =
-    order_restored (by_tid c.in_ok-runs.runs.entries) c.in_ok-promised.promised c.reserve.new.self.spare c.in_ok-ticket.ticket c.args.marks c.args.doubtful.now c.in_ok-runs.ensures c.in_ok-promised.ensures
+    order_restored (by_tid c.in_ok-runs.runs.entries) c.in_ok-promised.promised c.reserve.new.self.spare c.in_ok-ticket.ticket c.args.counters c.args.doubtful.now c.in_ok-runs.ensures c.in_ok-promised.ensures
     c.in_ok-reserve.ensures.room c.in_ok-ticket.ensures.holders
 
 pub returns-clause-book : goal.returns-clause-book

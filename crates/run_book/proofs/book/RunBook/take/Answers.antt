@@ -31,4 +31,4 @@ returns-clause-taken c =
     let runs = ap (λ (es : List (Tid × Held)). from_entries {R = tid_cmp} es) c.hold_ticket.ensures ∙ entries_changed (by_tid c.self.inside.runs.entries) c.args.tid (with_ticket c.hold-ticket.result) in
     same_parts _ _ _ _ _ _ _ _ _ _ refl runs refl (c.hold-ticket.ensures.published ∙ reserved.published) (c.hold-ticket.ensures.owner ∙ reserved.owner)
     ∙ (ap (λ (r : RoomyBook). tickets c.args.tid c.hold-ticket.result r.book) c.self.view_is
-    ∙ ap (λ (n : ℕ). tickets c.args.tid n c.args.self.now.book) (number ∙ ap (λ (r : RoomyBook). r.book.marks.published + 1) c.self.view_is))
+    ∙ ap (λ (n : ℕ). tickets c.args.tid n c.args.self.now.book) (number ∙ ap (λ (r : RoomyBook). r.book.counters.published + 1) c.self.view_is))

@@ -5,7 +5,7 @@ use Rattle.mdb_base.specs.declared.names.Tid.{Tid}
 use Rattle.mdb_base.specs.Names.{same_tid, tid_cmp}
 use Rattle.ticket_item.specs.Item.{is_holder}
 use Rattle.fed_rules.specs.Runs.{has_ticket}
-use Rattle.run_book.specs.declared.marks.Marks.{Marks}
+use Rattle.run_book.specs.declared.counters.Counters.{Counters}
 use Rattle.run_book.specs.Held.{Held, held_in, changed_in}
 use Rattle.run_book.specs.Book.{RoomyBook, not_sealed}
 use Rattle.run_book.specs.Named.{by_tid}
@@ -49,25 +49,25 @@ returns-then-has_ticket-clause-book c =
     let book = c.args.self.now.book in
     let held = c.run-run.result.now in
     let has : has_ticket held.run ≡ true = ap (λ (o : Option ℕ). is_some o) (sym c.ticket.ensures) ∙ (sym c.is_some-has_ticket.ensures ∙ c.if-has_ticket.true) in
-    let marks : ℕ → ℕ → Option Tid → Marks = λ n p o. record { counter = n; published = p; owner = o } in
-    unseals-made book _ _ c.args.tid held (marks c.marks-marks.result.counter c.withdraw.new.self.published c.withdraw.new.self.owner) c.run-run.ensures
+    let counters : ℕ → ℕ → Option Tid → Counters = λ n p o. record { counter = n; published = p; owner = o } in
+    unseals-made book _ _ c.args.tid held (counters c.counters-counters.result.counter c.withdraw.new.self.published c.withdraw.new.self.owner) c.run-run.ensures
     (ap (λ (r : RoomyBook). r.book.versions) c.self.view_is)
     (ap (λ (es : List (Tid × Held)). from_entries {R = tid_cmp} es) c.unseal.ensures ∙ (entries_changed (by_tid c.self.inside.runs.entries) c.args.tid not_sealed
     ∙ ap (λ (r : RoomyBook). changed_in c.args.tid not_sealed r.book.runs) c.self.view_is))
-    (ap (λ (p : ℕ). marks c.marks-marks.result.counter p c.withdraw.new.self.owner) c.withdraw.ensures.published
-    ∙ (ap (λ (o : Option Tid). marks c.marks-marks.result.counter c.marks-marks.result.published o) c.withdraw.ensures.owner
-    ∙ (c.marks-marks.ensures ∙ sym (cond-true (has_ticket held.run) held.marks (record book.marks { counter = held.marks.counter }) has))))
+    (ap (λ (p : ℕ). counters c.counters-counters.result.counter p c.withdraw.new.self.owner) c.withdraw.ensures.published
+    ∙ (ap (λ (o : Option Tid). counters c.counters-counters.result.counter c.counters-counters.result.published o) c.withdraw.ensures.owner
+    ∙ (c.counters-counters.ensures ∙ sym (cond-true (has_ticket held.run) held.counters (record book.counters { counter = held.counters.counter }) has))))
 
 pub returns-else-has_ticket-clause-book : goal.returns-else-has_ticket-clause-book
 returns-else-has_ticket-clause-book c =
     let book = c.args.self.now.book in
     let held = c.run-run.result.now in
     let lacks : has_ticket held.run ≡ false = ap (λ (o : Option ℕ). is_some o) (sym c.ticket.ensures) ∙ (sym c.is_some-has_ticket.ensures ∙ c.if-has_ticket.false) in
-    let marks : ℕ → ℕ → Option Tid → Marks = λ n p o. record { counter = n; published = p; owner = o } in
-    unseals-made book _ _ c.args.tid held (marks c.marks-marks.result.counter c.self.inside.ticket.published c.self.inside.ticket.owner) c.run-run.ensures
+    let counters : ℕ → ℕ → Option Tid → Counters = λ n p o. record { counter = n; published = p; owner = o } in
+    unseals-made book _ _ c.args.tid held (counters c.counters-counters.result.counter c.self.inside.ticket.published c.self.inside.ticket.owner) c.run-run.ensures
     (ap (λ (r : RoomyBook). r.book.versions) c.self.view_is)
     (ap (λ (es : List (Tid × Held)). from_entries {R = tid_cmp} es) c.unseal.ensures ∙ (entries_changed (by_tid c.self.inside.runs.entries) c.args.tid not_sealed
     ∙ ap (λ (r : RoomyBook). changed_in c.args.tid not_sealed r.book.runs) c.self.view_is))
-    (ap (λ (r : RoomyBook). marks c.marks-marks.result.counter r.book.marks.published r.book.marks.owner) c.self.view_is
-    ∙ (ap (λ (m : Marks). marks m.counter book.marks.published book.marks.owner) c.marks-marks.ensures
-    ∙ sym (cond-false (has_ticket held.run) held.marks (record book.marks { counter = held.marks.counter }) lacks)))
+    (ap (λ (r : RoomyBook). counters c.counters-counters.result.counter r.book.counters.published r.book.counters.owner) c.self.view_is
+    ∙ (ap (λ (m : Counters). counters m.counter book.counters.published book.counters.owner) c.counters-counters.ensures
+    ∙ sym (cond-false (has_ticket held.run) held.counters (record book.counters { counter = held.counters.counter }) lacks)))

@@ -14,7 +14,7 @@ returns-clause-begun c =
     let old = c.args.self.now in
     let book = old.book.book in
     let new : TimestampEngine = record old { book = c.begin.new.self } in
-    if_ok-both c.begin.result (λ n. n ≡ book.marks.counter + 1) (λ n. c.begin.new.self.book ≡ begins c.args.tid book)
+    if_ok-both c.begin.result (λ n. n ≡ book.counters.counter + 1) (λ n. c.begin.new.self.book ≡ begins c.args.tid book)
     (λ n. (start : Start) (lines : List EngineLine) → Stands old start lines → Stands new start (Begins c.args.tid n ∷ lines))
     (λ n number made start lines s.
     stands_begins old new start lines c.args.tid n s (free_after Timestamp book start lines c.requires.start c.requires.lines c.args.tid s.keeps.keeps c.requires.stood.keeps.keeps c.requires.holds.free)

@@ -5,7 +5,7 @@ use Rattle.mdb_base.specs.declared.names.Engine.TheVariants.{Timestamp}
 use Rattle.mdb_base.specs.declared.replies.Reply.TheVariants.{Ticket}
 use Rattle.fed_rules.specs.Runs.{Takes}
 use Rattle.fed_rules.specs.Replies.{age_of}
-use Rattle.run_book.specs.declared.marks.Marks.{Marks}
+use Rattle.run_book.specs.declared.counters.Counters.{Counters}
 use Rattle.run_book.specs.declared.rival.Rival.{Rival}
 use Rattle.run_book.specs.Book.{tickets}
 use Rattle.run_book.specs.Held.{Held}
@@ -51,7 +51,7 @@ returns-clause-answered c =
     λ start lines s.
     stands_called old _ start lines (Takes c.args.tid (Ticket c.in-Ok.ticket)) here.held.run s
     (right_take old start lines s c.args.tid here.held here.found (Ticket c.in-Ok.ticket) None here.live here.ticketless free
-    (ap (λ (n : ℕ). Ticket n) (c.in-Ok.ensures.ticket ∙ ap (λ (m : Marks). m.published + 1) s.keeps.keeps.marks)))
+    (ap (λ (n : ℕ). Ticket n) (c.in-Ok.ensures.ticket ∙ ap (λ (m : Counters). m.published + 1) s.keeps.keeps.counters)))
     (at old start lines s c.args.tid here.held here.found) (c.in-Ok.ensures.taken ∙ ap (λ (n : ℕ). tickets c.args.tid n book) (sym c.in-Ok.ensures.ticket)) (
       λ q. refl,
       c.hold.ensures ∙ (ap (λ (t : Takers). let u : Takers = record t { live = Some run } in u) c.in_ok-enter.ensures.entered

@@ -1,5 +1,5 @@
-use Rattle.journal_sums.proofs.MarkLaws.{tells_local, tells_prepared}
-use Rattle.journal_sums.proofs.marks.Marks.after.Goals as goal
+use Rattle.journal_sums.proofs.CounterLaws.{tells_local, tells_prepared}
+use Rattle.journal_sums.proofs.counters.SiteCounters.after.Goals as goal
 
 pub returns-in-Prepared : goal.returns-in-Prepared
 returns-in-Prepared c sum newer tells =

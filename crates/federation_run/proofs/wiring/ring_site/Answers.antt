@@ -1,5 +1,5 @@
 use Rattle.std.proofs.Common.{refl, ◌∙◌}
-use Rattle.federation_run.proofs.mooring.ring_site.Goals as goal
+use Rattle.federation_run.proofs.wiring.ring_site.Goals as goal
 
 pub returns : goal.returns
 returns c = record {

@@ -1,4 +1,4 @@
-use Rattle.federation_run.proofs.mooring.moor.Goals as goal
+use Rattle.federation_run.proofs.wiring.site_wiring_of.Goals as goal
 
 pub returns-clause-stops : goal.returns-clause-stops
 returns-clause-stops c = c.in_ok-stops.ensures

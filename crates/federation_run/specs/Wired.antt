@@ -1,4 +1,4 @@
--- What the hosts of a run are made of.
+-- The actors of a run with their scripted stops and their ends of the rings, before each gets its disk and its lock.
 use Rattle.std.specs.Prelude.{ℕ, ◌≡◌, Bool, true, false, Some, List, [], length, slice_get}
 use Rattle.mdb_base.specs.declared.names.SiteId.{SiteId}
 use Rattle.fed_rules.specs.declared.scenario.Scenario.{Scenario}
@@ -19,8 +19,8 @@ use Rattle.host_laws.specs.Links.{script_of}
 use Rattle.fed_hosts.specs.declared.ends.HostEnds.{HostEnds}
 use Rattle.fed_hosts.specs.declared.ports.Port.{Port}
 use Rattle.fed_hosts.specs.CoordHosts.{IsNewPort}
-use Rattle.federation_run.specs.declared.crews.Berth.{Berth}
-use Rattle.federation_run.specs.declared.crews.Crew.{Crew}
+use Rattle.federation_run.specs.declared.wired.WiredActors.{WiredActors}
+use Rattle.federation_run.specs.declared.wired.WiredSite.{WiredSite}
 use Rattle.federation_run.specs.Plans.{stops_in}
 
 -- the ends are those of the two rings of the site, which have the scripts of the scenario, and nothing went over them
@@ -36,18 +36,18 @@ pub record AreRinged (scenario : Scenario) (site : SiteId) (ends : HostEnds) (po
   pub uncounted : empty_count ends.inlet ≡ 0
   pub new : IsNewPort port
 
--- the berth of a site has its local database system, its stops and its ends
-pub record IsMoored (scenario : Scenario) (site : SiteId) (dbms : LocalDbms AnyEngine) (berth : Berth) (port : Port) : Type 0 where
-  pub dbms_is : berth.dbms ≡ dbms
-  pub stops : berth.stops.items ≡ stops_in scenario site.0
-  pub rings : AreRinged scenario site berth.ends port
+-- the wired site has this local database system, its stops and its ends
+pub record IsWired (scenario : Scenario) (site : SiteId) (dbms : LocalDbms AnyEngine) (wired : WiredSite) (port : Port) : Type 0 where
+  pub dbms_is : wired.dbms ≡ dbms
+  pub stops : wired.stops.items ≡ stops_in scenario site.0
+  pub rings : AreRinged scenario site wired.ends port
 
--- there are a berth and a port for each of these sites, with their local database systems
-pub record AreMoored (scenario : Scenario) (sites : List SiteId) (dbmss : List (LocalDbms AnyEngine)) (berths : List Berth) (ports : List Port) : Type 0 where
-  pub berths_count : length berths ≡ length sites
+-- there are a wired site and a port for each of these sites, with their local database systems
+pub record AreWired (scenario : Scenario) (sites : List SiteId) (dbmss : List (LocalDbms AnyEngine)) (wired_sites : List WiredSite) (ports : List Port) : Type 0 where
+  pub wired_count : length wired_sites ≡ length sites
   pub ports_count : length ports ≡ length sites
-  pub each : (place : ℕ) (site : SiteId) (dbms : LocalDbms AnyEngine) (berth : Berth) (port : Port) → slice_get sites place ≡ Some site → slice_get dbmss place ≡ Some dbms
-      → slice_get berths place ≡ Some berth → slice_get ports place ≡ Some port → IsMoored scenario site dbms berth port
+  pub each : (place : ℕ) (site : SiteId) (dbms : LocalDbms AnyEngine) (wired : WiredSite) (port : Port) → slice_get sites place ≡ Some site → slice_get dbmss place ≡ Some dbms
+      → slice_get wired_sites place ≡ Some wired → slice_get ports place ≡ Some port → IsWired scenario site dbms wired port
 
 -- the local database system is that of the site and, with the disk of its number, stands for no line
 pub record IsStood (tells : Bool) (disks : List Seen) (scenario : Scenario) (site : SiteId) (dbms : LocalDbms AnyEngine) : Type 0 where
@@ -57,21 +57,21 @@ pub record IsStood (tells : Bool) (disks : List Seen) (scenario : Scenario) (sit
   pub stood : DbmsStands tells disks dbms home (own_programs site scenario.transactions) []
 
 -- the actors of the scenario, with these disks, to which nothing happened since they were set up
-pub record IsManned (tells : Bool) (disks : List Seen) (scenario : Scenario) (manager : GlobalManager AnyPolicy) (cores : List (LocalDbms AnyEngine)) : Type 0 where
+pub record AreFreshActors (tells : Bool) (disks : List Seen) (scenario : Scenario) (manager : GlobalManager AnyPolicy) (cores : List (LocalDbms AnyEngine)) : Type 0 where
   pub coordinator : ManagerStands tells disks manager (terms_of scenario) (global_program scenario) []
   pub count : length cores ≡ length (sites scenario)
   pub each : (place : ℕ) (site : SiteId) (dbms : LocalDbms AnyEngine) → slice_get (sites scenario) place ≡ Some site → slice_get cores place ≡ Some dbms
       → IsStood tells disks scenario site dbms
   pub others : AreDisks disks scenario
 
--- all that the hosts of a run of the scenario are made of, with these disks, to which nothing happened since they were set up
-pub record IsCrew (tells : Bool) (disks : List Seen) (scenario : Scenario) (crew : Crew) : Type 0 where
-  pub manager : ManagerStands tells disks crew.manager (terms_of scenario) (global_program scenario) []
-  pub stops : crew.stops.items ≡ stops_in scenario 0
-  pub berths_count : length crew.berths.items ≡ length (sites scenario)
-  pub ports_count : length crew.ports.items ≡ length (sites scenario)
-  pub berth : (place : ℕ) (site : SiteId) (berth : Berth) → slice_get (sites scenario) place ≡ Some site → slice_get crew.berths.items place ≡ Some berth
-      → (berth.stops.items ≡ stops_in scenario site.0) × IsStood tells disks scenario site berth.dbms
-  pub ringed : (place : ℕ) (site : SiteId) (berth : Berth) (port : Port) → slice_get (sites scenario) place ≡ Some site → slice_get crew.berths.items place ≡ Some berth
-      → slice_get crew.ports.items place ≡ Some port → AreRinged scenario site berth.ends port
+-- the actors of a run of the scenario, with their stops, their rings and these disks, to which nothing happened since they were set up
+pub record AreWiredActors (tells : Bool) (disks : List Seen) (scenario : Scenario) (actors : WiredActors) : Type 0 where
+  pub manager : ManagerStands tells disks actors.manager (terms_of scenario) (global_program scenario) []
+  pub stops : actors.stops.items ≡ stops_in scenario 0
+  pub wired_count : length actors.wired_sites.items ≡ length (sites scenario)
+  pub ports_count : length actors.ports.items ≡ length (sites scenario)
+  pub wired : (place : ℕ) (site : SiteId) (wired : WiredSite) → slice_get (sites scenario) place ≡ Some site → slice_get actors.wired_sites.items place ≡ Some wired
+      → (wired.stops.items ≡ stops_in scenario site.0) × IsStood tells disks scenario site wired.dbms
+  pub ringed : (place : ℕ) (site : SiteId) (wired : WiredSite) (port : Port) → slice_get (sites scenario) place ≡ Some site → slice_get actors.wired_sites.items place ≡ Some wired
+      → slice_get actors.ports.items place ≡ Some port → AreRinged scenario site wired.ends port
   pub others : AreDisks disks scenario

@@ -2,14 +2,14 @@
 ghost use Rattle.std.specs.Prelude.{◌≡◌, max, nat_lt, cond, Some, List, [], ◌∷◌};
 ghost use Rattle.fed_rules.specs.declared.records.SiteRecord.{SiteRecord};
 ghost use Rattle.fed_rules.specs.declared.sums.SiteSum.{SiteSum};
-ghost use Rattle.journal_sums.specs.Readings.{TellsMarks};
+ghost use Rattle.journal_sums.specs.Readings.{TellsCounters};
 
 use fed_rules::{SiteRecord, SiteSum};
 use mdb_base::Tid;
 
 /// What a site counts.
 #[derive(Clone, Copy)]
-pub(crate) struct Marks {
+pub(crate) struct SiteCounters {
     /// The epoch of the last Start.
     pub epoch: u32,
     /// The greatest serial number.
@@ -19,12 +19,12 @@ pub(crate) struct Marks {
     pub owner: Option<Tid>,
 }
 
-impl Marks {
+impl SiteCounters {
     /// What a Checkpoint says of them.
-    pub fn of(sum: &SiteSum) -> Marks
-        ensures { TellsMarks result sum.now [] }
+    pub fn of(sum: &SiteSum) -> SiteCounters
+        ensures { TellsCounters result sum.now [] }
     {
-        Marks {
+        SiteCounters {
             epoch: sum.epoch,
             counter: sum.counter,
             published: sum.published,
@@ -33,11 +33,11 @@ impl Marks {
     }
 
     /// What they are with this record behind.
-    pub fn after(self, entry: &SiteRecord) -> Marks
-        ensures { (sum : SiteSum) (newer : List SiteRecord) → TellsMarks self sum newer → TellsMarks result sum (entry.now ∷ newer) }
+    pub fn after(self, entry: &SiteRecord) -> SiteCounters
+        ensures { (sum : SiteSum) (newer : List SiteRecord) → TellsCounters self sum newer → TellsCounters result sum (entry.now ∷ newer) }
     {
         match entry {
-            SiteRecord::Start { epoch } => Marks {
+            SiteRecord::Start { epoch } => SiteCounters {
                 epoch: *epoch,
                 ..self
             },
@@ -53,17 +53,17 @@ impl Marks {
     }
 
     // A number was given out.
-    fn counting(self, number: u64) -> Marks
+    fn counting(self, number: u64) -> SiteCounters
         ensures { result ≡ record { epoch = self.epoch; counter = max number self.counter; published = self.published; owner = self.owner } }
     {
-        Marks {
+        SiteCounters {
             counter: self.counter.max(number),
             ..self
         }
     }
 
     // An attempt was prepared with this ticket.
-    fn taking(self, tid: Tid, ticket: u64) -> Marks
+    fn taking(self, tid: Tid, ticket: u64) -> SiteCounters
         ensures { result ≡ record {
           epoch = self.epoch;
           counter = self.counter;
@@ -72,7 +72,7 @@ impl Marks {
         } }
     {
         if self.published < ticket {
-            Marks {
+            SiteCounters {
                 published: ticket,
                 owner: Some(tid),
                 ..self

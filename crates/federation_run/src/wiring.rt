@@ -1,15 +1,15 @@
-//! The rings of a run, and what its hosts are made of.
+//! The rings of a run, and the actors that are wired with them.
 ghost use Rattle.std.specs.Prelude.{◌≡◌, Bool, IfOk, List, length};
 ghost use Rattle.fed_rules.specs.Plans.{IsScenario};
 ghost use Rattle.fed_rules.specs.Scenarios.{global_program, sites};
 ghost use Rattle.journal_disk.specs.Disk.{Seen};
 ghost use Rattle.fed_world.specs.FreshWorlds.{Stands};
-ghost use Rattle.federation_run.specs.Crews.{AreMoored, AreRinged, IsCrew, IsManned};
+ghost use Rattle.federation_run.specs.Wired.{AreFreshActors, AreRinged, AreWired, AreWiredActors};
 ghost use Rattle.federation_run.specs.Plans.{stops_in};
 
-use crate::crews::{Berth, Crew};
 use crate::scripts::script_of;
 use crate::stops::stops_of;
+use crate::wired::{WiredActors, WiredSite};
 use any_engine::AnyEngine;
 use conservative_take::AnyPolicy;
 use fed_hosts::{HostEnds, Port};
@@ -60,109 +60,110 @@ fn ring_site(alloc: Global, scenario: &Scenario, site: SiteId) -> Result<Ringed,
     })
 }
 
-/// What the host of a site has beside its local database system, and the coordinator's ends of the rings of the site.
+/// The scripted stops of a site in their order, and the ends of its two rings, at the site and at the coordinator.
 #[derive(Drop)]
-struct Moored {
+struct SiteWiring {
     stops: Vec<StopLine>,
     ends: HostEnds,
     port: Port,
 }
 
-/// What the host of a site has beside its local database system.
-fn moor(alloc: Global, scenario: &Scenario, site: SiteId) -> Result<Moored, Memory>
-    ensures stops { IfOk result (λ moored. moored.stops.items ≡ stops_in scenario.now site.0) }
-    ensures rings { IfOk result (λ moored. AreRinged scenario.now site moored.ends moored.port) }
+/// The scripted stops of a site, and its two rings, to which nothing was offered.
+fn site_wiring_of(alloc: Global, scenario: &Scenario, site: SiteId) -> Result<SiteWiring, Memory>
+    ensures stops { IfOk result (λ wiring. wiring.stops.items ≡ stops_in scenario.now site.0) }
+    ensures rings { IfOk result (λ wiring. AreRinged scenario.now site wiring.ends wiring.port) }
 {
     let stops = stops_of(alloc, scenario, site.0)?;
     let Ringed { ends, port } = ring_site(alloc, scenario, site)?;
-    Ok(Moored { stops, ends, port })
+    Ok(SiteWiring { stops, ends, port })
 }
 
-/// The berth of a site.
+/// A site with its scripted stops and its ends of its rings.
 #[tactic(none)]
-fn berth_of(dbms: LocalDbms<AnyEngine>, stops: Vec<StopLine>, ends: HostEnds) -> Berth
+fn wired_site(dbms: LocalDbms<AnyEngine>, stops: Vec<StopLine>, ends: HostEnds) -> WiredSite
     ensures { result ≡ record { dbms = dbms; stops = stops; ends = ends } }
 {
-    Berth { dbms, stops, ends }
+    WiredSite { dbms, stops, ends }
 }
 
-/// The berths of the sites, and the coordinator's ends of their rings.
+/// The wired sites, and the coordinator's ends of their rings.
 #[derive(Drop)]
-struct Harbour {
-    berths: Vec<Berth>,
+struct WiredSites {
+    wired_sites: Vec<WiredSite>,
     ports: Vec<Port>,
 }
 
-/// What the hosts of these sites are made of.
-fn moor_all(
+/// These sites with their scripted stops and their rings.
+fn wire_sites(
     alloc: Global,
     scenario: &Scenario,
     sites: &[SiteId],
     cores: Vec<LocalDbms<AnyEngine>>,
-) -> Result<Harbour, Memory>
+) -> Result<WiredSites, Memory>
     requires { length cores.items ≡ length sites.now }
-    ensures { IfOk result (λ harbour. AreMoored scenario.now sites.now cores.items harbour.berths.items harbour.ports.items) }
+    ensures { IfOk result (λ made. AreWired scenario.now sites.now cores.items made.wired_sites.items made.ports.items) }
 {
     let mut rest = cores;
-    let mut berths = Vec::new(alloc);
+    let mut wired_sites = Vec::new(alloc);
     let mut ports = Vec::new(alloc);
     for site in sites {
-        let Moored { stops, ends, port } = moor(alloc, scenario, *site)?;
+        let SiteWiring { stops, ends, port } = site_wiring_of(alloc, scenario, *site)?;
         let dbms = rest.remove(0);
-        berths.push(berth_of(dbms, stops, ends))?;
+        wired_sites.push(wired_site(dbms, stops, ends))?;
         ports.push(port)?;
     }
-    Ok(Harbour { berths, ports })
+    Ok(WiredSites { wired_sites, ports })
 }
 
-/// What the hosts of a run are made of but their disks and the coordinator's front.
+/// The scripted stops of the coordinator, the wired sites, and the coordinator's ends of their rings.
 #[derive(Drop)]
-struct Fleet {
+struct Wiring {
     stops: Vec<StopLine>,
-    berths: Vec<Berth>,
+    wired_sites: Vec<WiredSite>,
     ports: Vec<Port>,
 }
 
-/// What the hosts of a run are made of beside the coordinator's front, from the sites of a world to which nothing happened yet.
-fn fleet_of(alloc: Global, scenario: &Scenario, cores: SiteCores) -> Result<Fleet, Memory>
+/// The scripted stops and the rings of a run, from the sites of a world to which nothing happened yet.
+fn wiring_of(alloc: Global, scenario: &Scenario, cores: SiteCores) -> Result<Wiring, Memory>
     requires { length cores.items.items ≡ length (sites scenario.now) }
-    ensures stops { IfOk result (λ fleet. fleet.stops.items ≡ stops_in scenario.now 0) }
-    ensures moored { IfOk result (λ fleet. AreMoored scenario.now (sites scenario.now) cores.items.items fleet.berths.items fleet.ports.items) }
+    ensures stops { IfOk result (λ wiring. wiring.stops.items ≡ stops_in scenario.now 0) }
+    ensures wired { IfOk result (λ wiring. AreWired scenario.now (sites scenario.now) cores.items.items wiring.wired_sites.items wiring.ports.items) }
 {
     let sites = cores.items;
     let declared = declared_sites(alloc, scenario)?;
     let stops = stops_of(alloc, scenario, 0)?;
-    let Harbour { berths, ports } = moor_all(alloc, scenario, declared.as_slice(), sites)?;
-    Ok(Fleet {
+    let WiredSites { wired_sites, ports } =
+        wire_sites(alloc, scenario, declared.as_slice(), sites)?;
+    Ok(Wiring {
         stops,
-        berths,
+        wired_sites,
         ports,
     })
 }
 
-/// All that the hosts of a run are made of, but their disks, from the actors of a world to which nothing happened yet.
+/// The wired actors of a run, from the actors of a world to which nothing happened yet.
 #[tactic(none)]
-pub(crate) fn crew_of(
+pub(crate) fn wire_actors(
     alloc: Global,
     scenario: &Scenario,
     manager: GlobalManager<AnyPolicy>,
     cores: SiteCores,
-) -> Result<Crew, Memory>
+) -> Result<WiredActors, Memory>
     requires { length cores.items.items ≡ length (sites scenario.now) }
-    ensures { IfOk result (λ crew. (tells : Bool) (disks : List Seen) → IsManned tells disks scenario.now manager cores.items.items → IsCrew tells disks scenario.now crew) }
+    ensures { IfOk result (λ actors. (tells : Bool) (disks : List Seen) → AreFreshActors tells disks scenario.now manager cores.items.items → AreWiredActors tells disks scenario.now actors) }
 {
-    match fleet_of(alloc, scenario, cores) {
+    match wiring_of(alloc, scenario, cores) {
         Ok(
-            Fleet {
+            Wiring {
                 stops,
-                berths,
+                wired_sites,
                 ports,
             },
-        ) => Ok(Crew {
+        ) => Ok(WiredActors {
             manager,
             stops,
             ports,
-            berths,
+            wired_sites,
         }),
         Err(why) => {
             drop(manager);

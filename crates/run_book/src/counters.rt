@@ -5,7 +5,7 @@ use mdb_base::Tid;
 
 /// The numbers that a site has handed out in this epoch.
 #[derive(Clone, Copy, Debug, PartialEq, Eq)]
-pub struct Marks {
+pub struct Counters {
     /// The greatest number drawn.
     pub counter: u64,
     /// The published ticket.
@@ -14,14 +14,14 @@ pub struct Marks {
     pub owner: Option<Tid>,
 }
 
-impl Marks {
-    ghost use Rattle.run_book.specs.Book.{sealed_marks};
+impl Counters {
+    ghost use Rattle.run_book.specs.Book.{sealed_counters};
 
-    /// The marks after a sealing with this serial number and ticket: both rise, and who raises the published ticket owns it.
+    /// The counters after a sealing with this serial number and ticket: both rise, and who raises the published ticket owns it.
     pub fn sealed(self, tid: Tid, number: u64, ticket: u64) -> Self
-        ensures { result ≡ sealed_marks tid number ticket self }
+        ensures { result ≡ sealed_counters tid number ticket self }
     {
-        Marks {
+        Counters {
             counter: number.max(self.counter),
             published: ticket.max(self.published),
             owner: if self.published < ticket {

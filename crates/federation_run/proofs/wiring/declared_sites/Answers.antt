@@ -3,7 +3,7 @@ use Rattle.mdb_base.specs.declared.names.SiteId.{SiteId}
 use Rattle.presumptions.specs.declared.Participant.{Participant}
 use Rattle.fed_rules.specs.declared.scenario.Scenario.{Scenario}
 use Rattle.fed_rules.specs.Scenarios.{protocols_in}
-use Rattle.federation_run.proofs.mooring.declared_sites.Goals as goal
+use Rattle.federation_run.proofs.wiring.declared_sites.Goals as goal
 
 pub returns : goal.returns
 returns c =

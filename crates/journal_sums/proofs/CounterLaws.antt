@@ -7,8 +7,8 @@ use Rattle.mdb_base.specs.declared.rows.Put.{Put}
 use Rattle.fed_rules.specs.declared.records.SiteRecord.{SiteRecord}
 use Rattle.fed_rules.specs.declared.records.SiteRecord.TheVariants.{Prepared, Local}
 use Rattle.fed_rules.specs.declared.sums.SiteSum.{SiteSum}
-use Rattle.journal_sums.specs.declared.marks.Marks.{Marks}
-use Rattle.journal_sums.specs.Readings.{TellsMarks}
+use Rattle.journal_sums.specs.declared.counters.SiteCounters.{SiteCounters}
+use Rattle.journal_sums.specs.Readings.{TellsCounters}
 
 -- of three numbers it doesn't matter which two are compared first
 greatest : (a b c : ℕ) → max a (max b c) ≡ max (max a b) c
@@ -29,29 +29,29 @@ owner_more p last t x o q = by_tests (nat_lt (max last p) t) refl (nat_lt p last
     by_tests false a false e false c true f = let h = ltb-true _ _ f in let k = ltb-false _ _ e in let l = ltb-false _ _ c in absurd (omega arith)
     by_tests false a false e c g false f = refl
 
-abbrev counted : ℕ → Marks → Marks
-counted number marks = record { epoch = marks.epoch; counter = max number marks.counter; published = marks.published; owner = marks.owner }
+abbrev counted : ℕ → SiteCounters → SiteCounters
+counted number counters = record { epoch = counters.epoch; counter = max number counters.counter; published = counters.published; owner = counters.owner }
 
-pub tells_local : (marks : Marks) (tid : Tid) (number : ℕ) (writes : List Put) (sum : SiteSum) (newer : List SiteRecord) → TellsMarks marks sum newer →
-    TellsMarks (counted number marks) sum (Local tid number writes ∷ newer)
-tells_local marks tid number writes sum newer tells = record {
+pub tells_local : (counters : SiteCounters) (tid : Tid) (number : ℕ) (writes : List Put) (sum : SiteSum) (newer : List SiteRecord) → TellsCounters counters sum newer →
+    TellsCounters (counted number counters) sum (Local tid number writes ∷ newer)
+tells_local counters tid number writes sum newer tells = record {
   epoch = tells.epoch;
   counter = ap (max number) tells.counter ∙ greatest number _ sum.counter;
   published = tells.published;
   owner = tells.owner;
 }
 
-pub tells_prepared : (marks : Marks) (tid : Tid) (epoch number ticket : ℕ) (writes : List Put) (sum : SiteSum) (newer : List SiteRecord) → TellsMarks marks sum newer →
-    TellsMarks (record {
-      epoch = marks.epoch;
-      counter = max number marks.counter;
-      published = max ticket marks.published;
-      owner = cond (nat_lt marks.published ticket) (Some tid) marks.owner;
+pub tells_prepared : (counters : SiteCounters) (tid : Tid) (epoch number ticket : ℕ) (writes : List Put) (sum : SiteSum) (newer : List SiteRecord) → TellsCounters counters sum newer →
+    TellsCounters (record {
+      epoch = counters.epoch;
+      counter = max number counters.counter;
+      published = max ticket counters.published;
+      owner = cond (nat_lt counters.published ticket) (Some tid) counters.owner;
     }) sum (Prepared tid epoch number ticket writes ∷ newer)
-tells_prepared marks tid epoch number ticket writes sum newer tells = record {
+tells_prepared counters tid epoch number ticket writes sum newer tells = record {
   epoch = tells.epoch;
   counter = ap (max number) tells.counter ∙ greatest number _ sum.counter;
   published = ap (max ticket) tells.published ∙ greatest ticket _ sum.published;
-  owner = ap (λ p. cond (nat_lt p ticket) (Some tid) marks.owner) tells.published ∙ ap (cond (nat_lt (max _ sum.published) ticket) (Some tid)) tells.owner
+  owner = ap (λ p. cond (nat_lt p ticket) (Some tid) counters.owner) tells.published ∙ ap (cond (nat_lt (max _ sum.published) ticket) (Some tid)) tells.owner
       ∙ owner_more sum.published _ ticket (Some tid) _ sum.owner;
 }
