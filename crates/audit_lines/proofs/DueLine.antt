@@ -2,7 +2,7 @@
 use Rattle.std.proofs.Common.{◌≡◌, ℕ, Bool, true, false, not, ◌&&◌, Option, Some, None, List, refl, sym, ap, subst, ◌∙◌}
 use Rattle.mdb_base.specs.declared.names.SiteId.{SiteId}
 use Rattle.mdb_base.specs.declared.replies.Edge.{Edge}
-use Rattle.mdb_base.specs.Words.{item_at, pick, when}
+use Rattle.mdb_base.specs.Words.{given, item_at, when}
 use Rattle.presumptions.specs.declared.Participant.{Participant}
 use Rattle.fed_rules.specs.declared.answers.Answer.{Answer}
 use Rattle.fed_rules.specs.declared.answers.Answer.TheVariants as Say
@@ -90,10 +90,10 @@ at_take members story x event site place message printed due edges wrong is same
     )
 
 module _ (scenario : Scenario) (story : Story) (site : SiteId) (place : ℕ) (printed due : Answer) (edges : List Edge) (wrong : Bool) where
-  by_message : (o : Option FromSite) (happened : Happened) → happened ≡ pick o (Nowhere Say.None) (λ message. at_coordinator scenario story (Ev.Take site message))
+  by_message : (o : Option FromSite) (happened : Happened) → happened ≡ given o (λ message. at_coordinator scenario story (Ev.Take site message)) (Nowhere Say.None)
       → IsAnswer (protocols scenario) story happened due → TellsWrong (protocols scenario) story happened edges wrong
       → Compares (protocols scenario) story happened (Cmd.Take site place) printed due edges wrong
-  unfolding pick
+  unfolding given
   by_message None happened is answer tells =
       let none : due ≡ Say.None = subst (λ h. IsAnswer (protocols scenario) story h due) is answer in
       let unnamed : names_cycle due ≡ false = ap names_cycle none in
@@ -112,7 +112,7 @@ module _ (scenario : Scenario) (story : Story) (site : SiteId) (place : ℕ) (pr
 -- ---- any command
 
 module _ (scenario : Scenario) (story : Story) (printed due : Answer) (edges : List Edge) (wrong : Bool) where
-  takes_it : (site : SiteId) (place : ℕ) → happens scenario story (Cmd.Take site place) ≡ pick (item_at (sent_from site story) place) (Nowhere Say.None) (λ message. at_coordinator scenario story (Ev.Take site message))
+  takes_it : (site : SiteId) (place : ℕ) → happens scenario story (Cmd.Take site place) ≡ given (item_at (sent_from site story) place) (λ message. at_coordinator scenario story (Ev.Take site message)) (Nowhere Say.None)
   unfolding happens on_take
   takes_it site place = refl
 

@@ -5,7 +5,7 @@ use Rattle.mdb_base.specs.declared.names.SiteId.{SiteId}
 use Rattle.mdb_base.specs.declared.names.Tid.{Tid}
 use Rattle.mdb_base.specs.declared.names.Tx.{Tx}
 use Rattle.mdb_base.specs.Names.{same_tid}
-use Rattle.mdb_base.specs.Words.{item_at, pick, some_of, when}
+use Rattle.mdb_base.specs.Words.{given, item_at, some_of, when}
 use Rattle.presumptions.specs.declared.Participant.{Participant}
 use Rattle.fed_rules.specs.declared.answers.Answer.TheVariants as Say
 use Rattle.fed_rules.specs.declared.commands.Command.{Command}
@@ -45,7 +45,7 @@ AsksNoTake (Submits event) = IsNoTake event
 AsksNoTake (Declines answer) = Unit {0}
 
 asks_go : (protocols : List Participant) (policy : Policy) (program : Option (List Step)) (past : CoordPast) (tx : Tx) → AsksNoTake (go_request protocols policy program past tx)
-unfolding go_request go_next pick when
+unfolding go_request go_next given when
 asks_go protocols policy None past tx = tt
 asks_go protocols policy (Some steps) past tx = by_count (nat_le most_attempts (attempts_of past tx)) where
   by_count : (b : Bool) → AsksNoTake (when b (Declines (unless_begun (coord_line protocols policy past (Ev.Go (attempt tx (attempts_of past tx)) steps)).answer)) (Submits (Ev.Go (attempt tx (attempts_of past tx)) steps)))
@@ -53,7 +53,7 @@ asks_go protocols policy (Some steps) past tx = by_count (nat_le most_attempts (
   by_count false = tt
 
 asks_fate : (program : Option (List Step)) (tx : Tx) → AsksNoTake (fate_request program tx)
-unfolding fate_request pick
+unfolding fate_request given
 asks_fate None tx = tt
 asks_fate (Some steps) tx = tt
 
@@ -77,8 +77,8 @@ module _ (scenario : Scenario) (story : Story) where
   at_request (Declines answer) home = tt
 
   by_home : (verb : Verb) (tx : Tx) (o : Option Home) (nowhere : Happened) → TookNothing nowhere
-      → TookNothing (pick o nowhere (λ home. requested home story (request verb home (program_of scenario tx) (past_of home.site story) tx)))
-  unfolding pick
+      → TookNothing (given o (λ home. requested home story (request verb home (program_of scenario tx) (past_of home.site story) tx)) nowhere)
+  unfolding given
   by_home verb tx None nowhere none = none
   by_home verb tx (Some home) nowhere none = at_request (request verb home (program_of scenario tx) (past_of home.site story) tx) home
 
@@ -87,9 +87,9 @@ module _ (scenario : Scenario) (story : Story) where
   local_takes_none verb tx nowhere none = by_home verb tx (local_home scenario tx) nowhere none
 
   site_takes_none : (site : SiteId) (event : SiteEvent) → TookNothing (on_site scenario story site event)
-  unfolding on_site pick
+  unfolding on_site given
   site_takes_none site event = by_declared (home_of scenario site) where
-    by_declared : (o : Option Home) → TookNothing (pick o (Nowhere Say.None) (λ home. at_site home story event))
+    by_declared : (o : Option Home) → TookNothing (given o (λ home. at_site home story event) (Nowhere Say.None))
     by_declared None = tt
     by_declared (Some home) = tt
 
@@ -115,9 +115,9 @@ module _ (scenario : Scenario) (story : Story) where
   actor_takes_none (suc n) event own none = site_takes_none (record { 0 = suc n }) own
 
   give_takes_none : (site : SiteId) (place : ℕ) → TookNothing (on_give scenario story site place)
-  unfolding on_give pick
+  unfolding on_give given
   give_takes_none site place = by_message (item_at (sent_to site story) place) where
-    by_message : (o : Option ToSite) → TookNothing (pick o (Nowhere Say.None) (λ message. on_site scenario story site (Site_event.Give message)))
+    by_message : (o : Option ToSite) → TookNothing (given o (λ message. on_site scenario story site (Site_event.Give message)) (Nowhere Say.None))
     by_message None = tt
     by_message (Some message) = site_takes_none site (Site_event.Give message)
 

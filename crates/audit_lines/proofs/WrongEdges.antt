@@ -2,7 +2,7 @@
 use Rattle.std.proofs.Common.{◌≡◌, ℕ, Bool, true, false, not, Option, Some, None, List, refl, sym, subst}
 use Rattle.mdb_base.specs.declared.names.SiteId.{SiteId}
 use Rattle.mdb_base.specs.declared.replies.Edge.{Edge}
-use Rattle.mdb_base.specs.Words.{item_at, pick}
+use Rattle.mdb_base.specs.Words.{given, item_at}
 use Rattle.presumptions.specs.declared.Participant.{Participant}
 use Rattle.fed_rules.specs.declared.answers.Answer.TheVariants as Say
 use Rattle.fed_rules.specs.declared.commands.Command.{Command}
@@ -36,8 +36,8 @@ module _ (scenario : Scenario) (story : Story) (edges : List Edge) (wrong : Bool
       → wrong ≡ not (may_name (protocols scenario) (coord_past story) (taken (protocols scenario) (policy scenario) (coord_past story) site message) (message_tid message) edges)
 
   by_message : (site : SiteId) (o : Option FromSite) → ((message : FromSite) → o ≡ Some message → TellsOf site message)
-      → TellsWrong (protocols scenario) story (pick o (Nowhere Say.None) (λ message. at_coordinator scenario story (Ev.Take site message))) edges wrong
-  unfolding pick
+      → TellsWrong (protocols scenario) story (given o (λ message. at_coordinator scenario story (Ev.Take site message)) (Nowhere Say.None)) edges wrong
+  unfolding given
   by_message site None tells = tt
   by_message site (Some message) tells =
       subst (λ event. TellsAt (protocols scenario) (coord_past story) (taken (protocols scenario) (policy scenario) (coord_past story) site message) event edges wrong)

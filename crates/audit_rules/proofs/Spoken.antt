@@ -1,6 +1,6 @@
 -- Printed lines as they are read, for worked examples: a line before the report, or a line of the report.
 use Rattle.std.proofs.Common.{ℕ, Bool, false, List, [], ◌∷◌, map}
-use Rattle.mdb_base.specs.Words.{when, pick}
+use Rattle.mdb_base.specs.Words.{when, given}
 use Rattle.fed_rules.specs.declared.commands.Line.{Line}
 use Rattle.fed_rules.specs.declared.report.Report.{Report}
 use Rattle.fed_rules.specs.declared.scenario.Scenario.{Scenario}
@@ -36,5 +36,5 @@ verdict_of scenario first texts = verdict_from read is scenario first texts []
 
 -- one name that opens every rule of the audit, so that examples compute
 unfoldable pub audited : Unit {0}
-unfolding when pick fault_in fault_of rests merges verdict_on_report verdict_at_order unless_fault verdict_at verdict_from
+unfolding when given fault_in fault_of rests merges verdict_on_report verdict_at_order unless_fault verdict_at verdict_from
 audited = tt

@@ -2,7 +2,7 @@
 use Rattle.std.specs.Prelude.{ℕ, Bool, cond, ◌&&◌, ◌==◌, codes, Option, Some, None, List, [], ◌∷◌, ◌++◌, drop, length, take}
 use Rattle.std.specs.Str.{bytes_eq}
 use Rattle.mdb_base.specs.declared.names.Tid.{Tid}
-use Rattle.mdb_base.specs.Words.{pick}
+use Rattle.mdb_base.specs.Words.{given}
 use Rattle.scenario_text.specs.Pieces.{TextLine}
 use Rattle.trace_lines.specs.Lexed.{line_in, tids_in}
 use Rattle.report_text.specs.Spelling.{line_bytes, reads_words, outcome_words, forgotten_words, table_words}
@@ -27,7 +27,7 @@ order_in bytes = order_behind (behind (codes "order") bytes)
 
 -- the order, or else the line of a command, or neither
 abbrev pub printed_by : List ℕ → agreement.Printed
-printed_by bytes = pick (order_in bytes) (pick (line_in bytes) agreement.Neither agreement.Says) agreement.Orders
+printed_by bytes = given (order_in bytes) agreement.Orders (given (line_in bytes) agreement.Says agreement.Neither)
 
 -- what is read of a line before the report: a line without its line feed is neither
 unfoldable pub printed_in : TextLine → agreement.Printed

@@ -1,6 +1,6 @@
 //! What is read of a printed line.
 ghost use Rattle.std.specs.Prelude.{◌≡◌, IfOk, codes};
-ghost use Rattle.mdb_base.specs.Words.{pick};
+ghost use Rattle.mdb_base.specs.Words.{given};
 ghost use Rattle.audit_rules.specs.Agreement as agreement;
 ghost use Rattle.trace_lines.specs.Lexed.{line_in, tids_in};
 ghost use Rattle.audit_text.specs.Lines as spec;
@@ -67,9 +67,9 @@ fn line_found(alloc: Global, text: &[u8]) -> Result<Option<Line>, Memory>
 }
 
 /// The line of a command, or neither.
-#[tactic(auto, unfolding(mdb_base::specs::Words::pick))]
+#[tactic(auto, unfolding(mdb_base::specs::Words::given))]
 fn said_of(alloc: Global, line: &[u8]) -> Result<Printed, Memory>
-    ensures { IfOk result (λ printed. as_printed printed ≡ pick (line_in line.now) agreement.Neither agreement.Says) }
+    ensures { IfOk result (λ printed. as_printed printed ≡ given (line_in line.now) agreement.Says agreement.Neither) }
 {
     match line_found(alloc, line)? {
         Some(said) => Ok(Printed::Says(said)),
@@ -78,7 +78,7 @@ fn said_of(alloc: Global, line: &[u8]) -> Result<Printed, Memory>
 }
 
 /// What is read of a line, by whether a line feed ends it: a command's line, the order, or neither. A line without its line feed is neither.
-#[tactic(auto, unfolding(crate::specs::Lines::printed_in, mdb_base::specs::Words::pick))]
+#[tactic(auto, unfolding(crate::specs::Lines::printed_in, mdb_base::specs::Words::given))]
 pub fn read_printed(alloc: Global, line: &[u8], ended: bool) -> Result<Printed, Memory>
     ensures { IfOk result (λ printed. as_printed printed ≡ printed_in (record { bytes = line.now; ended = ended })) }
 {

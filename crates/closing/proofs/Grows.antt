@@ -15,7 +15,7 @@ use Rattle.fed_rules.specs.Sessions.{Session}
 use Rattle.fed_rules.specs.SitePast.{is_local, trip}
 use Rattle.fed_rules.specs.Story.{Story, past_of, story_in}
 use Rattle.closing.specs.declared.actors.SiteTids.{SiteTids}
-use Rattle.closing.specs.Steps.{AreDoubtful, asks_all, back_of, clearing_at, clearing_of, disarm_of, give_of, given, late_of, only_of, take_of, with_commands}
+use Rattle.closing.specs.Steps.{AreDoubtful, asks_all, back_of, clearing_at, clearing_of, disarm_of, give_of, last_sends_given, late_of, only_of, take_of, with_commands}
 use Rattle.closing.proofs.Loops.{each_extends}
 use Rattle.closing.proofs.Towards.{Extends, extends_here, extends_one, extends_twice}
 
@@ -34,8 +34,8 @@ module _ (session : Session) where
   pub taken_grows : (commands : List Command) → Extends (taken session commands) commands
   taken_grows commands = takes_extend (last_sends session commands) commands
 
-  pub given_grows : (commands : List Command) → Extends (given session commands) commands
-  given_grows commands = pushes_extend (λ (place : Place). Cmd.Give place.site place.place) (last_sends session commands) commands
+  pub last_sends_grow : (commands : List Command) → Extends (last_sends_given session commands) commands
+  last_sends_grow commands = pushes_extend (λ (place : Place). Cmd.Give place.site place.place) (last_sends session commands) commands
 
   pub deliver_grows : (place : Place) (commands : List Command) → Extends (deliver session place commands) commands
   deliver_grows place commands =
@@ -51,7 +51,7 @@ module _ (session : Session) where
   inquire_grows site tid commands =
       let one = Cmd.Ask site tid ∷ commands in
       let asked = taken session one in
-      extends_twice commands asked (given session asked) (given_grows asked) (extends_twice commands one asked (taken_grows one) (extends_one (Cmd.Ask site tid) commands))
+      extends_twice commands asked (last_sends_given session asked) (last_sends_grow asked) (extends_twice commands one asked (taken_grows one) (extends_one (Cmd.Ask site tid) commands))
 
   pub disarm_grows : (commands : List Command) → Extends (rules.disarm session commands) commands
   disarm_grows commands =
@@ -100,7 +100,7 @@ takes_made session commands now items places sent e f g h =
     ap (λ more. with_commands more commands) (e ∙ (f ∙ ap (map take_of) (g ∙ h))) ∙ takes_are (last_sends session commands) commands
 
 pub gives_made : (session : Session) (commands now items : List Command) (places sent : List Place) → now ≡ items → items ≡ map give_of places → places ≡ sent → sent ≡ last_sends session commands
-    → with_commands now commands ≡ given session commands
+    → with_commands now commands ≡ last_sends_given session commands
 gives_made session commands now items places sent e f g h =
     ap (λ more. with_commands more commands) (e ∙ (f ∙ ap (map give_of) (g ∙ h))) ∙ pushes_are give_of (last_sends session commands) commands
 

@@ -55,8 +55,8 @@ only_of (x ∷ []) = Some x
 only_of (x ∷ y ∷ xs) = None
 
 -- what the coordinator just sent is given
-abbrev pub given : Session → List Command → List Command
-given session commands = for_each (λ place more. Cmd.Give place.site place.place ∷ more) (last_sends session commands) commands
+abbrev pub last_sends_given : Session → List Command → List Command
+last_sends_given session commands = for_each (λ place more. Cmd.Give place.site place.place ∷ more) (last_sends session commands) commands
 
 -- the messages at these places are delivered
 abbrev pub deliver_all : List Place → Session → List Command → List Command

@@ -3,7 +3,7 @@ ghost use Rattle.std.specs.Prelude.{IfErr, OnOk, IsTrue, map};
 ghost use Rattle.fed_rules.specs.Closing.{deliver as delivered, taken};
 ghost use Rattle.fed_world.specs.Faults.{CountsTell};
 ghost use Rattle.fed_world.specs.Worlds.{SomeStory, Stands};
-ghost use Rattle.closing.specs.Steps.{given};
+ghost use Rattle.closing.specs.Steps.{last_sends_given};
 ghost use Rattle.closing.specs.Towards.{FallsShort, Reaches, WillFit};
 
 use crate::carrying::carry_out;
@@ -61,9 +61,9 @@ pub(crate) fn give_sent<D: Disk>(
     disks: &mut Vec<D>,
 ) -> Result<(), WorldErr>
     requires told { IsTrue D.tells }
-    requires stood { SomeStory (Stands D.tells world.old (map D.seen disks.old.items)) (WillFit given) }
-    ensures done { OnOk result (Reaches D.tells world.old (map D.seen disks.old.items) world.new (map D.seen disks.new.items) (WillFit given) given) }
-    ensures failed { IfErr result (λ why. FallsShort D.seen D.tells world.old (map D.seen disks.old.items) why world.new (map D.seen disks.new.items) (WillFit given) given) }
+    requires stood { SomeStory (Stands D.tells world.old (map D.seen disks.old.items)) (WillFit last_sends_given) }
+    ensures done { OnOk result (Reaches D.tells world.old (map D.seen disks.old.items) world.new (map D.seen disks.new.items) (WillFit last_sends_given) last_sends_given) }
+    ensures failed { IfErr result (λ why. FallsShort D.seen D.tells world.old (map D.seen disks.old.items) why world.new (map D.seen disks.new.items) (WillFit last_sends_given) last_sends_given) }
     ensures cause { CountsTell result (map D.seen disks.old.items) (map D.seen disks.new.items) }
 {
     let Ok(places) = last_places(alloc, world) else {

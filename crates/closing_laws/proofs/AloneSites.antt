@@ -8,7 +8,7 @@ use Rattle.mdb_base.specs.declared.replies.Reply.TheVariants as Reply_is
 use Rattle.mdb_base.specs.Names.{same_tid}
 use Rattle.mdb_base.specs.Words.{Each}
 use Rattle.mdb_base.proofs.Words.{when-true, when-false, cond-true, cond-false}
-use Rattle.mdb_base.proofs.OptionLaws.{pick_some, pick_none}
+use Rattle.mdb_base.proofs.OptionLaws.{given_some, given_none}
 use Rattle.fed_rules.specs.declared.messages.FromSite.{FromSite}
 use Rattle.fed_rules.specs.declared.messages.FromSite.TheVariants as From
 use Rattle.fed_rules.specs.declared.messages.ToSite.TheVariants as To
@@ -69,7 +69,7 @@ module _ (home : Home) (past : SitePast) (g : Tid) (act : PlainAct) where
   unfolding of_work first_work first_line
   first_is idle over =
       when-false _ _ _ over
-      ∙ (pick_none _ _ _ (ap live_one (idle.none g))
+      ∙ (given_none _ _ _ (ap live_one (idle.none g))
       ∙ (when-true ((0 == 0) && (0 == 0)) _ _ refl
       ∙ ap (λ reply. did home past (To.Work g 0 0 act) g 0 reply (Acts g act reply ∷ Begins g (next_number home past) ∷ []))
       (access_granted (epoch_start home past) (Begins g (next_number home past) ∷ engine_lines past) (begun g (next_number home past)) (first_alone idle) act)))
@@ -100,7 +100,7 @@ module _ (home : Home) (past : SitePast) (g : Tid) (me : Run) (act : PlainAct) w
   unfolding of_work work_live next_work next_line
   next_is named alone over ticketless few =
       when-false _ _ _ over
-      ∙ (pick_some (live home past g) _ _ me (ap (live home past) (sym named) ∙ alone_live home past me alone)
+      ∙ (given_some (live home past g) _ _ me (ap (live home past) (sym named) ∙ alone_live home past me alone)
       ∙ (when-false _ _ _ (fits (epoch home past == epoch home past) (has_ticket me) (nat_lt 31 (done me)) (eq-eqb (epoch home past) (epoch home past) refl) ticketless (le-ltb 31 (done me) few))
       ∙ (when-true _ _ _ (eq-eqb (done me) (done me) refl)
       ∙ ap (λ reply. did home past (To.Work g (epoch home past) (done me) act) g (done me) reply (Acts g act reply ∷ [])) (access_granted (epoch_start home past) (engine_lines past) me alone act))))
@@ -145,7 +145,7 @@ module _ (home : Home) (past : SitePast) (g : Tid) (me : Run) where
   unfolding of_take take_live next_take ticket_line
   ticket_is named alone over ticketless =
       when-false _ _ _ over
-      ∙ (pick_some (live home past g) _ _ me (ap (live home past) (sym named) ∙ alone_live home past me alone)
+      ∙ (given_some (live home past g) _ _ me (ap (live home past) (sym named) ∙ alone_live home past me alone)
       ∙ (when-false _ _ _ (fits (epoch home past == epoch home past) (has_ticket me) (eq-eqb (epoch home past) (epoch home past) refl) ticketless)
       ∙ (when-true _ _ _ (eq-eqb (done me) (done me) refl)
       ∙ ap (λ reply. did home past (To.Take g (epoch home past) (done me)) g (done me) reply (Takes g reply ∷ [])) (ticket_granted (epoch_start home past) (engine_lines past) me alone))))
@@ -178,11 +178,11 @@ module _ (home : Home) (past : SitePast) (g : Tid) (me : Run) where
       → of_prepare home past g (epoch home past) (done me) ≡ votes_yes home past g (epoch home past) (done me) me n
   unfolding of_prepare prepare_live seals_global
   prepare_is n named alone over ticketed =
-      pick_none _ _ _ (not_over home past g over).1
-      ∙ (pick_some (live home past g) _ _ me (ap (live home past) (sym named) ∙ alone_live home past me alone)
+      given_none _ _ _ (not_over home past g over).1
+      ∙ (given_some (live home past g) _ _ me (ap (live home past) (sym named) ∙ alone_live home past me alone)
       ∙ (when-true _ _ _ (ap₂ (λ (a b : Bool). a && b) (eq-eqb (epoch home past) (epoch home past) refl) (eq-eqb (done me) (done me) refl))
-      ∙ (pick_some me.ticket _ _ n ticketed
-      ∙ pick_none _ _ _ (seal_free (epoch_start home past) (engine_lines past) me alone home.engine))))
+      ∙ (given_some me.ticket _ _ n ticketed
+      ∙ given_none _ _ _ (seal_free (epoch_start home past) (engine_lines past) me alone home.engine))))
 
   pub prepare_stage : (n : ℕ) (c e : ℕ) (t : Bool) → me.tid ≡ g → IsAlone (epoch_start home past) (engine_lines past) me → Stage home (votes_yes home past g (epoch home past) (done me) me n ∷ past) g c e t (Some n)
   unfolding votes_yes

@@ -6,7 +6,7 @@ use Rattle.mdb_base.specs.declared.names.SiteId.{SiteId}
 use Rattle.mdb_base.specs.declared.names.Tid.{Tid}
 use Rattle.mdb_base.specs.declared.names.Tx.{Tx}
 use Rattle.mdb_base.specs.Names.{same_tid}
-use Rattle.mdb_base.specs.Words.{when, pick}
+use Rattle.mdb_base.specs.Words.{when, given}
 use Rattle.mdb_base.proofs.Words.{when-false, cond-true, cond-false}
 use Rattle.presumptions.specs.declared.Decision.{Decision}
 use Rattle.presumptions.specs.declared.Participant.{Participant}
@@ -185,34 +185,34 @@ unfolding when
 mild_when home past true a b p q = p
 mild_when home past false a b p q = q
 
-mild_pick : {A : Type 0} (home : Home) (past : SitePast) (o : Option A) (none : SiteHappening) (some : A → SiteHappening) → IsMild home past none → ((x : A) → IsMild home past (some x)) → IsMild home past (pick o none some)
-unfolding pick
-mild_pick home past None none some p q = p
-mild_pick home past (Some x) none some p q = q x
+mild_given : {A : Type 0} (home : Home) (past : SitePast) (o : Option A) (none : SiteHappening) (some : A → SiteHappening) → IsMild home past none → ((x : A) → IsMild home past (some x)) → IsMild home past (given o some none)
+unfolding given
+mild_given home past None none some p q = p
+mild_given home past (Some x) none some p q = q x
 
 -- the lines of closing at a site
 pub decide_mild : (home : Home) (past : SitePast) (tid : Tid) (decision : Decision) → IsMild home past (of_decide home past tid decision)
 unfolding of_decide
 decide_mild home past tid decision =
-    mild_pick home past (doubt_of (records home past) tid) _ _
-    (mild_pick home past (live home past tid) _ _ (unheld_mild home past tid decision) (λ run. dropping_mild home past tid decision))
+    mild_given home past (doubt_of (records home past) tid) _ _
+    (mild_given home past (live home past tid) _ _ (unheld_mild home past tid decision) (λ run. dropping_mild home past tid decision))
     (λ held. settling_mild home past tid decision)
 
 pub abort_mild : (home : Home) (past : SitePast) (tid : Tid) → IsMild home past (of_abort home past tid)
 unfolding of_abort
 abort_mild home past tid =
-    mild_pick home past (live home past tid) _ _ (quiet_mild home past (Ev.Abort tid) Say.Idle refl refl (λ tx. refl)) (λ run. aborting_mild home past (Ev.Abort tid) (Say.Aborted tid) tid refl refl (λ tx. refl))
+    mild_given home past (live home past tid) _ _ (quiet_mild home past (Ev.Abort tid) Say.Idle refl refl (λ tx. refl)) (λ run. aborting_mild home past (Ev.Abort tid) (Say.Aborted tid) tid refl refl (λ tx. refl))
 
 pub drop_mild : (home : Home) (past : SitePast) (tid : Tid) → IsMild home past (of_drop home past tid)
 unfolding of_drop
 drop_mild home past tid =
     mild_when home past (is_local past tid) _ _ (quiet_mild home past (Ev.Drop tid) Say.Idle refl refl (λ tx. refl))
-    (mild_pick home past (live home past tid) _ _ (quiet_mild home past (Ev.Drop tid) Say.Idle refl refl (λ tx. refl)) (λ run. aborting_mild home past (Ev.Drop tid) (Say.Dropped tid) tid refl refl (λ tx. refl)))
+    (mild_given home past (live home past tid) _ _ (quiet_mild home past (Ev.Drop tid) Say.Idle refl refl (λ tx. refl)) (λ run. aborting_mild home past (Ev.Drop tid) (Say.Dropped tid) tid refl refl (λ tx. refl)))
 
 pub ask_mild : (home : Home) (past : SitePast) (tid : Tid) → IsMild home past (of_ask home past tid)
 unfolding of_ask
 ask_mild home past tid =
-    mild_pick home past (doubt_of (records home past) tid) _ _ (quiet_mild home past (Ev.Ask tid) Say.Idle refl refl (λ tx. refl))
+    mild_given home past (doubt_of (records home past) tid) _ _ (quiet_mild home past (Ev.Ask tid) Say.Idle refl refl (λ tx. refl))
     (λ held. asking)
   where
     inquiry : SiteHappening

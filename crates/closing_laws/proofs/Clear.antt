@@ -5,7 +5,7 @@ use Rattle.mdb_base.specs.declared.names.Tid.{Tid}
 use Rattle.mdb_base.specs.Words.{Each, those}
 use Rattle.mdb_base.proofs.NameLaws.{same_tid-refl, same_site-refl}
 use Rattle.mdb_base.proofs.Words.{when-false}
-use Rattle.mdb_base.proofs.OptionLaws.{pick_some}
+use Rattle.mdb_base.proofs.OptionLaws.{given_some}
 use Rattle.order_laws.specs.Chains.{In}
 use Rattle.order_laws.proofs.Lists.{in_those, those_in, each_from}
 use Rattle.fed_rules.specs.declared.answers.Answer.TheVariants as Say
@@ -43,11 +43,11 @@ abort_told : (scenario : Scenario) (story : Story) (home : Home) (tid : Tid) (ru
     → happens scenario story (Cmd.Abort tid.tx) ≡ AtSite home.site (with_lines (Ev.Abort tid) (Say.Aborted tid) (Aborts tid ∷ []))
 unfolding happens on_local request with_live of_abort
 abort_told scenario story home tid run c here found_one is_live =
-    pick_some (local_home scenario tid.tx) _ _ home here
+    given_some (local_home scenario tid.tx) _ _ home here
     ∙ (ap (requested home story) (when-false _ _ _ (c.sites home.site).up
-    ∙ (pick_some (live_of_tx home (past_of home.site story) tid.tx) _ _ tid found_one
-    ∙ pick_some (live home (past_of home.site story) tid) _ _ run is_live))
-    ∙ ap (λ x. AtSite home.site x) (aborts_here home (past_of home.site story) tid (c.sites home.site) ∙ pick_some (live home (past_of home.site story) tid) _ _ run is_live))
+    ∙ (given_some (live_of_tx home (past_of home.site story) tid.tx) _ _ tid found_one
+    ∙ given_some (live home (past_of home.site story) tid) _ _ run is_live))
+    ∙ ap (λ x. AtSite home.site x) (aborts_here home (past_of home.site story) tid (c.sites home.site) ∙ given_some (live home (past_of home.site story) tid) _ _ run is_live))
 
 drop_told : (scenario : Scenario) (story : Story) (home : Home) (tid : Tid) (run : Run) → IsCalm story → home_of scenario home.site ≡ Some home
     → is_local (past_of home.site story) tid ≡ false → live home (past_of home.site story) tid ≡ Some run
@@ -55,7 +55,7 @@ drop_told : (scenario : Scenario) (story : Story) (home : Home) (tid : Tid) (run
 unfolding happens of_drop
 drop_told scenario story home tid run c d global is_live =
     at_home scenario story home (Ev.Drop tid) d
-    ∙ ap (λ x. AtSite home.site x) (drops home (past_of home.site story) tid (c.sites home.site) ∙ (when-false _ _ _ global ∙ pick_some (live home (past_of home.site story) tid) _ _ run is_live))
+    ∙ ap (λ x. AtSite home.site x) (drops home (past_of home.site story) tid (c.sites home.site) ∙ (when-false _ _ _ global ∙ given_some (live home (past_of home.site story) tid) _ _ run is_live))
 
 module _ (rights : StoriesHaveRightLines) (scenario : Scenario) where
   aborts_clear : (commands : List Command) (home : Home) (tid : Tid) → IsScenario scenario → IsCalm (story_of scenario commands) → local_home scenario tid.tx ≡ Some home

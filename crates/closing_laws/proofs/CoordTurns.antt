@@ -3,7 +3,7 @@ use Rattle.std.proofs.Common.{◌≡◌, ℕ, Bool, true, false, cond, Some, Non
 use Rattle.mdb_base.specs.declared.names.SiteId.{SiteId}
 use Rattle.mdb_base.specs.declared.names.Tid.{Tid}
 use Rattle.mdb_base.specs.Names.{same_tid}
-use Rattle.mdb_base.specs.Words.{when, pick, item_at, some_of}
+use Rattle.mdb_base.specs.Words.{when, given, item_at, some_of}
 use Rattle.mdb_base.proofs.NameLaws.{same_tid-refl}
 use Rattle.mdb_base.proofs.Words.{when-true}
 use Rattle.mdb_base.proofs.ListLaws.{among_some}
@@ -117,8 +117,8 @@ gentle_again session fits commands tid c =
 -- what the coordinator takes at a place
 pub takes_there : (scenario : Scenario) (story : Story) (site : SiteId) (n : ℕ) (message : FromSite) → item_at (sent_from site story) n ≡ Some message
     → happens scenario story (Cmd.Take site n) ≡ at_coordinator scenario story (Ev.Take site message)
-unfolding happens on_take pick
-takes_there scenario story site n message e = ap (λ o. pick o (Nowhere Say.None) (λ m. at_coordinator scenario story (Ev.Take site m))) e
+unfolding happens on_take given
+takes_there scenario story site n message e = ap (λ o. given o (λ m. at_coordinator scenario story (Ev.Take site m)) (Nowhere Say.None)) e
 
 pub gentle_ack : (session : Session) (fits : CoordinatorFits session) (commands : List Command) (site : SiteId) (n : ℕ) (tid : Tid) → IsCalm (story_in session commands) → item_at (sent_from site (story_in session commands)) n ≡ Some (From.Ack tid)
     → IsGentle session.plan (story_in session commands) (happens session.plan (story_in session commands) (Cmd.Take site n))

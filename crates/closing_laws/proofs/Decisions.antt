@@ -4,7 +4,7 @@ use Rattle.std.proofs.lemmas.List.{append-nil}
 use Rattle.mdb_base.specs.declared.names.SiteId.{SiteId}
 use Rattle.mdb_base.specs.declared.names.Tid.{Tid}
 use Rattle.mdb_base.specs.Names.{same_tid, same_tx}
-use Rattle.mdb_base.specs.Words.{Each, Among, when, pick, item_at}
+use Rattle.mdb_base.specs.Words.{Each, Among, when, given, item_at}
 use Rattle.mdb_base.proofs.NameLaws.{same_tid-equal, same_tx-refl}
 use Rattle.mdb_base.proofs.Words.{cond-false}
 use Rattle.presumptions.specs.declared.Decision.TheVariants as Decided_as
@@ -93,10 +93,10 @@ commit_of g (Rec.Commit t ks ∷ rs) (inr m) = by_test (same_tx t.tx g.tx) (comm
 
 -- what is taken leaves the sites as they were
 take_leaves : (scenario : Scenario) (commands : List Command) (from : SiteId) (n : ℕ) (site : SiteId) → past_of site (story_of scenario (Cmd.Take from n ∷ commands)) ≡ past_of site (story_of scenario commands)
-unfolding happens on_take pick
+unfolding happens on_take given
 take_leaves scenario commands from n site = by_item (item_at (sent_from from (story_of scenario commands)) n)
   where
-    by_item : (o : Option FromSite) → with_site site (pick o (Nowhere Say.None) (λ m. at_coordinator scenario (story_of scenario commands) (Ev.Take from m))) (past_of site (story_of scenario commands)) ≡ past_of site (story_of scenario commands)
+    by_item : (o : Option FromSite) → with_site site (given o (λ m. at_coordinator scenario (story_of scenario commands) (Ev.Take from m)) (Nowhere Say.None)) (past_of site (story_of scenario commands)) ≡ past_of site (story_of scenario commands)
     by_item None = refl
     by_item (Some m) = refl
 

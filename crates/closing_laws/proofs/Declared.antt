@@ -3,7 +3,7 @@ use Rattle.std.proofs.Common.{◌≡◌, ℕ, zero, suc, ◌<◌, ◌⊎◌, ◌
 use Rattle.std.proofs.lemmas.Bool.{and_parts}
 use Rattle.mdb_base.specs.declared.names.SiteId.{SiteId}
 use Rattle.mdb_base.specs.Names.{same_site}
-use Rattle.mdb_base.specs.Words.{Among, pick, some_of, each_of, inserted}
+use Rattle.mdb_base.specs.Words.{Among, given, some_of, each_of, inserted}
 use Rattle.mdb_base.proofs.NameLaws.{same_site-equal, same_site-refl}
 use Rattle.presumptions.specs.declared.Participant.{Participant}
 use Rattle.order_laws.specs.Chains.{In}
@@ -23,14 +23,14 @@ use Rattle.federation_laws.proofs.Declared.{number_some}
 -- an event of the actor with a declared site's number is that site's
 pub actor_hears : (scenario : Scenario) (home : Home) (story : Story) (c : CoordEvent) (s : SiteEvent) → AreSites scenario.sites → home_of scenario home.site ≡ Some home
     → on_actor scenario story home.site.0 c s ≡ at_site home story s
-unfolding on_actor on_site pick
+unfolding on_actor on_site given
 actor_hears scenario home story c s whole d = by_number home.site.0 refl
   where
     by_number : (n : ℕ) → home.site.0 ≡ n → on_actor scenario story n c s ≡ at_site home story s
     by_number zero e = (let some = number_some scenario home.site home whole d in absurd (omega (arith, some, e)))
     by_number (suc n) e =
         let here : home.site ≡ record { 0 = suc n } = same_site-equal home.site (record { 0 = suc n }) (eq-eqb home.site.0 (suc n) e) in
-        ap (λ o. pick o (Nowhere Say.None) (λ h. at_site h story s)) (ap (home_of scenario) (sym here) ∙ d)
+        ap (λ o. given o (λ h. at_site h story s) (Nowhere Say.None)) (ap (home_of scenario) (sym here) ∙ d)
 
 -- no two lines are of one site, so each participant is a declared site with its protocol
 pub record IsMemberHome (scenario : Scenario) (member : Participant) : Type 0 where

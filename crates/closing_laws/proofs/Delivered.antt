@@ -5,7 +5,7 @@ use Rattle.std.proofs.Common.{◌≡◌, ℕ, ◌⊎◌, Bool, true, false, cond
 use Rattle.mdb_base.specs.declared.names.SiteId.{SiteId}
 use Rattle.mdb_base.specs.declared.names.Tid.{Tid}
 use Rattle.mdb_base.specs.Names.{same_site, same_tid}
-use Rattle.mdb_base.specs.Words.{when, pick, item_at}
+use Rattle.mdb_base.specs.Words.{when, given, item_at}
 use Rattle.mdb_base.proofs.NameLaws.{same_tid-refl, same_site-refl}
 use Rattle.mdb_base.proofs.Words.{cond-true}
 use Rattle.mdb_base.proofs.ListLaws.{among_some}
@@ -53,22 +53,22 @@ item_behind (x ∷ xs) ys y = item_behind xs ys y
 pub give_told : (scenario : Scenario) (story : Story) (home : Home) (n : ℕ) (tid : Tid) (decision : Decision) → IsCalm story → home_of scenario home.site ≡ Some home
     → item_at (sent_to home.site story) n ≡ Some (To.Decide tid decision)
     → happens scenario story (Cmd.Give home.site n) ≡ AtSite home.site (of_decide home (past_of home.site story) tid decision)
-unfolding happens on_give of_give pick
+unfolding happens on_give of_give given
 give_told scenario story home n tid decision c d e =
-    ap (λ o. pick o (Nowhere Say.None) (λ m. on_site scenario story home.site (Ev.Give m))) e
+    ap (λ o. given o (λ m. on_site scenario story home.site (Ev.Give m)) (Nowhere Say.None)) e
     ∙ (at_home scenario story home (Ev.Give (To.Decide tid decision)) d
     ∙ ap (λ x. AtSite home.site x) (gives home (past_of home.site story) (To.Decide tid decision) (c.sites home.site)))
 
 -- a site answers a decision by an acknowledgement, where its protocol has one
 pub decide_sends : (home : Home) (past : SitePast) (tid : Tid) (decision : Decision) → (of_decide home past tid decision).sends ≡ ack_of home tid decision
-unfolding of_decide settles unheld pick
+unfolding of_decide settles unheld given
 decide_sends home past tid decision = by_doubt (doubt_of (Site_past.records home past) tid)
   where
-    by_live : (o : Option Run) → (pick o (unheld home tid decision []) (λ run. unheld home tid decision (Aborts tid ∷ []))).sends ≡ ack_of home tid decision
+    by_live : (o : Option Run) → (given o (λ run. unheld home tid decision (Aborts tid ∷ [])) (unheld home tid decision [])).sends ≡ ack_of home tid decision
     by_live None = refl
     by_live (Some run) = refl
 
-    by_doubt : (o : Option Held) → (pick o (pick (live home past tid) (unheld home tid decision []) (λ run. unheld home tid decision (Aborts tid ∷ []))) (λ held. settles home tid decision)).sends ≡ ack_of home tid decision
+    by_doubt : (o : Option Held) → (given o (λ held. settles home tid decision) (given (live home past tid) (λ run. unheld home tid decision (Aborts tid ∷ [])) (unheld home tid decision []))).sends ≡ ack_of home tid decision
     by_doubt None = by_live (live home past tid)
     by_doubt (Some held) = refl
 

@@ -6,7 +6,7 @@ use Rattle.mdb_base.specs.declared.names.SiteId.{SiteId}
 use Rattle.mdb_base.specs.declared.names.Tid.{Tid}
 use Rattle.mdb_base.specs.declared.names.Tx.{Tx}
 use Rattle.mdb_base.specs.Names.{same_tx}
-use Rattle.mdb_base.specs.Words.{Among, each_of, found, how_many, map_some, pick, those, when, with_some}
+use Rattle.mdb_base.specs.Words.{Among, each_of, found, given, how_many, map_some, those, when, with_some}
 use Rattle.mdb_base.proofs.NameLaws.{same_tx-equal}
 use Rattle.mdb_base.proofs.JoinLaws.{length-map}
 use Rattle.order_laws.specs.Chains.{In}
@@ -86,7 +86,7 @@ none_few scenario tx = record { most = omega arith; listed = λ some. absurd (om
 -- `go` begins an attempt only where fewer were begun
 go_few : (scenario : Scenario) (story : Story) (tx : Tx) (x : CoordHappening) → happens scenario story (Cmd.Go tx) ≡ AtCoordinator x
     → Coordinator.attempts_of (coord_past story) tx < 32
-unfolding happens on_go go_request go_next pick when
+unfolding happens on_go go_request go_next given when
 go_few scenario story tx x told = by_program (global_program scenario tx) told
   where
     count : ℕ

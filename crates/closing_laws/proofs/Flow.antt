@@ -36,7 +36,7 @@ use Rattle.closing_laws.proofs.CoordView.{Views, did_event, reply_of, only_views
 use Rattle.closing_laws.proofs.Delivered.{item_behind}
 use Rattle.closing_laws.proofs.Dues.{due_of, due_is, IsDue, AtWork, AtTake, AtPrepare, due_kind, due_there, other_at, other_ticketed}
 use Rattle.federation_laws.proofs.Dues.{of_site, steps_of, count_of, epoch_of, ticket_of}
-use Rattle.closing_laws.proofs.Exchange.{IsExchange, given, both, past_given, other_given, coord_both, past_both, sent_given, sent_both, calm_both, goes_on}
+use Rattle.closing_laws.proofs.Exchange.{IsExchange, with_give, both, past_given, other_given, coord_both, past_both, sent_given, sent_both, calm_both, goes_on}
 use Rattle.closing_laws.proofs.Onward.{IsCalm, one_home}
 use Rattle.fed_rules.specs.Policies.{Policy, policy_of}
 use Rattle.mdb_base.proofs.NameLaws.{same_tid-refl, same_tid-equal, same_site-equal, same_site-refl}
@@ -224,13 +224,13 @@ module _ (scenario : Scenario) (whole : IsScenario scenario) (g : Tid) (prog : L
   dues = news (protocols scenario) (coord_past (story_of scenario commands)) (quiet (did_event g (coord_past (story_of scenario commands)) home.site e n reply) Say.Only ∷ coord_past (story_of scenario commands)) g home.site
 
   abbrev mid : Story
-  mid = story_of scenario (given scenario commands home en.place (message_of g en.due) x (From.Did g e n reply) y ex)
+  mid = story_of scenario (with_give scenario commands home en.place (message_of g en.due) x (From.Did g e n reply) y ex)
 
   abbrev pub answered : List Command
   answered = both scenario commands home en.place (message_of g en.due) x (From.Did g e n reply) y ex
 
   abbrev pub sent_entries : List Entry
-  sent_entries = map (entry_for (story_of scenario (given scenario commands home en.place (message_of g en.due) x (From.Did g e n reply) y ex)))
+  sent_entries = map (entry_for (story_of scenario (with_give scenario commands home en.place (message_of g en.due) x (From.Did g e n reply) y ex)))
       (news (protocols scenario) (coord_past (story_of scenario commands)) (quiet (did_event g (coord_past (story_of scenario commands)) home.site e n reply) Say.Only ∷ coord_past (story_of scenario commands)) g home.site)
 
   coord_now : coord_past (story_of scenario answered) ≡ y ∷ past

@@ -7,7 +7,7 @@ use Rattle.mdb_base.specs.declared.names.SiteTicket.{SiteTicket}
 use Rattle.mdb_base.specs.declared.names.Tid.{Tid}
 use Rattle.mdb_base.specs.declared.replies.Edge.{Edge}
 use Rattle.mdb_base.specs.Names.{same_site, same_tid}
-use Rattle.mdb_base.specs.Words.{Among, pick, item_at}
+use Rattle.mdb_base.specs.Words.{Among, given, item_at}
 use Rattle.mdb_base.proofs.Words.{when-true, when-false, cond-false}
 use Rattle.mdb_base.proofs.NameLaws.{same_site-equal, same_site-refl}
 use Rattle.mdb_base.proofs.PlaceLaws.{item_at-front}
@@ -51,7 +51,7 @@ use Rattle.closing_laws.proofs.AloneSites.{Stage, prepare_stage}
 use Rattle.closing_laws.proofs.CoordView.{Views, voted, vote_views, due_now, found_where}
 use Rattle.closing_laws.proofs.Dues.{due_of, due_by, due_is, IsDue, AtWork, AtTake, AtPrepare, due_kind}
 use Rattle.federation_laws.proofs.Dues.{steps_of, count_of, epoch_of, ticket_of}
-use Rattle.closing_laws.proofs.Exchange.{IsExchange, given, both, past_given, other_given, coord_both, past_both, sent_both, calm_both, goes_on}
+use Rattle.closing_laws.proofs.Exchange.{IsExchange, with_give, both, past_given, other_given, coord_both, past_both, sent_both, calm_both, goes_on}
 use Rattle.closing_laws.proofs.Flow.{Entry, site_of, place_of, IsQueued, members_of, Flow, member_there}
 use Rattle.closing_laws.proofs.FlowSteps.{weight, weight_of, Advances, one_more_passes}
 use Rattle.closing_laws.proofs.Onward.{one_home}
@@ -227,7 +227,7 @@ module _ (published_law : CommittedTicketsArePublished) (scenario : Scenario) (w
     answered = both scenario commands home en.place (message_of g en.due) x (From.Vote g (Some n)) y ex
 
     abbrev pub mid : Story
-    mid = story_of scenario (given scenario commands home en.place (message_of g en.due) x (From.Vote g (Some n)) y ex)
+    mid = story_of scenario (with_give scenario commands home en.place (message_of g en.due) x (From.Vote g (Some n)) y ex)
 
     pub coord_now : coord_past (story_of scenario answered) ≡ y ∷ past
     coord_now = coord_both scenario commands home en.place (message_of g en.due) x (From.Vote g (Some n)) y ex
@@ -375,10 +375,10 @@ module _ (published_law : CommittedTicketsArePublished) (scenario : Scenario) (w
   -- the last vote finds no cycle
   pub last_commits : all_voted (quiet event Say.Voted ∷ past) g (participants (protocols scenario) past g) ≡ true
       → yes_vote (protocols scenario) past event g ≡ commits_it (protocols scenario) past event g (vote_tickets (quiet event Say.Voted ∷ past) g (participants (protocols scenario) past g))
-  unfolding yes_vote last_vote pick
+  unfolding yes_vote last_vote given
   last_commits all =
       when-true _ _ _ all
-      ∙ ap (λ o. pick o (commits_it (protocols scenario) past event g tickets) (λ edges. aborts (protocols scenario) past event g (For.Cycle edges))) none
+      ∙ ap (λ o. given o (λ edges. aborts (protocols scenario) past event g (For.Cycle edges)) (commits_it (protocols scenario) past event g tickets)) none
     where
       tickets : List SiteTicket
       tickets = vote_tickets (quiet event Say.Voted ∷ past) g (participants (protocols scenario) past g)

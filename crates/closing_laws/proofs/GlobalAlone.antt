@@ -10,7 +10,7 @@ use Rattle.mdb_base.specs.Words.{Each, Among, those, first_where, item_at}
 use Rattle.mdb_base.proofs.ListLaws.{each_map}
 use Rattle.mdb_base.proofs.NameLaws.{same_tid-refl, same_site-equal, same_site-refl}
 use Rattle.mdb_base.proofs.Words.{when-false, cond-true, cond-false}
-use Rattle.mdb_base.proofs.OptionLaws.{pick_some, pick_none}
+use Rattle.mdb_base.proofs.OptionLaws.{given_some, given_none}
 use Rattle.presumptions.specs.declared.Participant.{Participant}
 use Rattle.order_laws.specs.Chains.{In}
 use Rattle.order_laws.proofs.Lists.{each_at, each_from, those_in, is_among}
@@ -189,9 +189,9 @@ global_commits unbegun published_law rights epochs scenario commands tx steps wh
 
     told : happens scenario story (Cmd.Go tx) ≡ AtCoordinator y
     told =
-        ap (coord_requested scenario story) (pick_some (global_program scenario tx) _ _ steps is_program
+        ap (coord_requested scenario story) (given_some (global_program scenario tx) _ _ steps is_program
         ∙ when-false _ _ _ (lt-leb most_attempts (Coordinator.attempts_of past tx) few))
-        ∙ (ap (λ z. AtCoordinator z) (go_here (protocols scenario) (policy scenario) past g steps q.calm.coordinator ∙ (pick_none _ _ _ uncommitted ∙ pick_none _ _ _ none_undecided)))
+        ∙ (ap (λ z. AtCoordinator z) (go_here (protocols scenario) (policy scenario) past g steps q.calm.coordinator ∙ (given_none _ _ _ uncommitted ∙ given_none _ _ _ none_undecided)))
 
     now_is : coord_past (story_of scenario begun) ≡ y ∷ past
     now_is = ap (λ h. with_coordinator h past) told

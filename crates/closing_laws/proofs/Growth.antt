@@ -4,7 +4,7 @@ use Rattle.mdb_base.specs.declared.acts.PlainAct.{PlainAct}
 use Rattle.mdb_base.specs.declared.names.Tid.{Tid}
 use Rattle.mdb_base.specs.declared.names.Tx.{Tx}
 use Rattle.mdb_base.specs.declared.replies.Reply.{Reply}
-use Rattle.mdb_base.specs.Words.{when, pick}
+use Rattle.mdb_base.specs.Words.{when, given}
 use Rattle.presumptions.specs.declared.Decision.{Decision}
 use Rattle.presumptions.specs.declared.Decision.TheVariants as Decided
 use Rattle.fed_rules.specs.declared.answers.Answer.{Answer}
@@ -51,11 +51,11 @@ module _ (home : Home) (past : SitePast) (local : Tx → Bool) where
   at_when true x y p q = p refl
   at_when false x y p q = q refl
 
-  at_pick : {A : Type 0} (o : Option A) (none : SiteHappening) (some : A → SiteHappening) → (o ≡ None → Growth home past local none)
-      → ((a : A) → o ≡ Some a → Growth home past local (some a)) → Growth home past local (pick o none some)
-  unfolding pick
-  at_pick None none some p q = p refl
-  at_pick (Some a) none some p q = q a refl
+  at_given : {A : Type 0} (o : Option A) (none : SiteHappening) (some : A → SiteHappening) → (o ≡ None → Growth home past local none)
+      → ((a : A) → o ≡ Some a → Growth home past local (some a)) → Growth home past local (given o some none)
+  unfolding given
+  at_given None none some p q = p refl
+  at_given (Some a) none some p q = q a refl
 
   by_quiet : (event : SiteEvent) (answer : Answer) → stops answer ≡ false → comes_up answer ≡ false → Growth home past local (quiet event answer)
   by_quiet event answer goes stays = Stays (record { goes = goes; stays = stays }) (λ start older. refl)
@@ -67,32 +67,32 @@ module _ (home : Home) (past : SitePast) (local : Tx → Bool) where
   by_begin : (tid : Tid) → local tid.tx ≡ true → tid.attempt ≡ attempts_of past tid.tx → Growth home past local (of_begin home past tid)
   unfolding of_begin
   by_begin tid mine next =
-      at_pick (local_of (records home past) tid.tx) _ _
-      (λ free. at_pick (live_of_tx home past tid.tx) _ _ (λ none. Next (record { goes = refl; stays = refl }) tid (next_number home past) refl mine next refl) (λ running e. by_quiet _ _ refl refl))
+      at_given (local_of (records home past) tid.tx) _ _
+      (λ free. at_given (live_of_tx home past tid.tx) _ _ (λ none. Next (record { goes = refl; stays = refl }) tid (next_number home past) refl mine next refl) (λ running e. by_quiet _ _ refl refl))
       (λ committed e. by_quiet _ _ refl refl)
 
   by_act : (tid : Tid) (act : PlainAct) → Growth home past local (of_act home past tid act)
   unfolding of_act
   by_act tid act =
-      at_pick (live home past tid) _ _ (λ e. by_quiet _ _ refl refl)
+      at_given (live home past tid) _ _ (λ e. by_quiet _ _ refl refl)
       (λ run e. same (acts_about tid (reply_to home past run act) act).stays (acts_about tid (reply_to home past run act) act).up (λ start older. refl))
 
   by_commit : (tid : Tid) → Growth home past local (of_commit home past tid)
   unfolding of_commit seals_local
   by_commit tid =
-      at_pick (live home past tid) _ _ (λ e. by_quiet _ _ refl refl)
-      (λ run e. at_pick (stop_of home past run) _ _ (λ free. same refl refl (λ start older. refl))
+      at_given (live home past tid) _ _ (λ e. by_quiet _ _ refl refl)
+      (λ run e. at_given (stop_of home past run) _ _ (λ free. same refl refl (λ start older. refl))
       (λ why f. same (refused_about tid why).stays (refused_about tid why).up (λ start older. refl)))
 
   by_abort : (tid : Tid) → Growth home past local (of_abort home past tid)
   unfolding of_abort
-  by_abort tid = at_pick (live home past tid) _ _ (λ e. by_quiet _ _ refl refl) (λ run e. same refl refl (λ start older. refl))
+  by_abort tid = at_given (live home past tid) _ _ (λ e. by_quiet _ _ refl refl) (λ run e. same refl refl (λ start older. refl))
 
   by_fate : (tx : Tx) → Growth home past local (of_fate home past tx)
   unfolding of_fate
   by_fate tx =
-      at_pick (local_of (records home past) tx) _ _
-      (λ e. at_pick (live_of_tx home past tx) _ _ (λ f. by_count (attempts_of past tx == 0)) (λ running f. by_quiet _ _ refl refl))
+      at_given (local_of (records home past) tx) _ _
+      (λ e. at_given (live_of_tx home past tx) _ _ (λ f. by_count (attempts_of past tx == 0)) (λ running f. by_quiet _ _ refl refl))
       (λ committed e. by_quiet _ _ refl refl)
     where
       by_count : (b : Bool) → Growth home past local (quiet (Ev.Fate tx) (cond b Say.Unbegun Say.Ended))
@@ -101,13 +101,13 @@ module _ (home : Home) (past : SitePast) (local : Tx → Bool) where
 
   by_ask : (tid : Tid) → Growth home past local (of_ask home past tid)
   unfolding of_ask
-  by_ask tid = at_pick (doubt_of (records home past) tid) _ _ (λ e. by_quiet _ _ refl refl) (λ held e. same refl refl (λ start older. refl))
+  by_ask tid = at_given (doubt_of (records home past) tid) _ _ (λ e. by_quiet _ _ refl refl) (λ held e. same refl refl (λ start older. refl))
 
   by_drop : (tid : Tid) → Growth home past local (of_drop home past tid)
   unfolding of_drop
   by_drop tid =
       at_when (is_local past tid) _ _ (λ e. by_quiet _ _ refl refl)
-      (λ e. at_pick (live home past tid) _ _ (λ f. by_quiet _ _ refl refl) (λ run f. same refl refl (λ start older. refl)))
+      (λ e. at_given (live home past tid) _ _ (λ f. by_quiet _ _ refl refl) (λ run f. same refl refl (λ start older. refl)))
 
   by_check : Growth home past local (of_check home past)
   unfolding of_check
@@ -141,7 +141,7 @@ module _ (home : Home) (past : SitePast) (local : Tx → Bool) where
   by_work tid e n act k others =
       let message = To.Work tid e n act in
       at_when (is_over home past tid) _ _ (λ q. by_unknown message tid n)
-      (λ fresh. at_pick (live home past tid) _ _
+      (λ fresh. at_given (live home past tid) _ _
       (λ none. at_when ((e == 0) && (n == 0)) _ _
       (λ q. by_first_work message tid n act others (free_here home past tid k none (not_over home past tid fresh)) fresh)
       (λ q. by_unknown message tid n))
@@ -162,24 +162,24 @@ module _ (home : Home) (past : SitePast) (local : Tx → Bool) where
   by_take tid e n =
       let message = To.Take tid e n in
       at_when (is_over home past tid) _ _ (λ q. by_unknown message tid n)
-      (λ fresh. at_pick (live home past tid) _ _ (λ none. by_unknown message tid n) (λ run at. by_take_live message tid e n run))
+      (λ fresh. at_given (live home past tid) _ _ (λ none. by_unknown message tid n) (λ run at. by_take_live message tid e n run))
 
   by_seals : (tid : Tid) (e n : ℕ) (run : Run) (ticket : ℕ) → Growth home past local (seals_global home past tid e n run ticket)
   unfolding seals_global votes_yes votes_no
   by_seals tid e n run ticket =
-      at_pick (stop_of home past run) _ _ (λ free. same refl refl (λ start older. refl)) (λ why f. same refl refl (λ start older. refl))
+      at_given (stop_of home past run) _ _ (λ free. same refl refl (λ start older. refl)) (λ why f. same refl refl (λ start older. refl))
 
   by_prepare_live : (tid : Tid) (e n : ℕ) (run : Run) → Growth home past local (prepare_live home past tid e n run)
   unfolding prepare_live votes_no
   by_prepare_live tid e n run =
-      at_when _ _ _ (λ q. at_pick run.ticket _ _ (λ none. same refl refl (λ start older. refl)) (λ ticket took. by_seals tid e n run ticket))
+      at_when _ _ _ (λ q. at_given run.ticket _ _ (λ none. same refl refl (λ start older. refl)) (λ ticket took. by_seals tid e n run ticket))
       (λ q. same refl refl (λ start older. refl))
 
   by_prepare : (tid : Tid) (e n : ℕ) → Growth home past local (of_prepare home past tid e n)
   unfolding of_prepare votes_again votes_no
   by_prepare tid e n =
-      at_pick (doubt_of (records home past) tid) _ _
-      (λ none. at_pick (live home past tid) _ _ (λ q. same refl refl (λ start older. refl)) (λ run at. by_prepare_live tid e n run))
+      at_given (doubt_of (records home past) tid) _ _
+      (λ none. at_given (live home past tid) _ _ (λ q. same refl refl (λ start older. refl)) (λ run at. by_prepare_live tid e n run))
       (λ held at. at_when (held.epoch == e) _ _ (λ q. same refl refl (λ start older. refl)) (λ q. same refl refl (λ start older. refl)))
 
   by_settles : (tid : Tid) (decision : Decision) → Growth home past local (settles home tid decision)
@@ -190,8 +190,8 @@ module _ (home : Home) (past : SitePast) (local : Tx → Bool) where
   by_decide : (tid : Tid) (decision : Decision) → Growth home past local (of_decide home past tid decision)
   unfolding of_decide unheld
   by_decide tid decision =
-      at_pick (doubt_of (records home past) tid) _ _
-      (λ none. at_pick (live home past tid) _ _ (λ q. same refl refl (λ start older. refl)) (λ run at. same refl refl (λ start older. refl)))
+      at_given (doubt_of (records home past) tid) _ _
+      (λ none. at_given (live home past tid) _ _ (λ q. same refl refl (λ start older. refl)) (λ run at. same refl refl (λ start older. refl)))
       (λ held at. by_settles tid decision)
 
   by_give : (message : ToSite) → IsKept home past → IsSorted local (Ev.Give message) → Growth home past local (of_give home past message)

@@ -3,7 +3,7 @@ use Rattle.std.proofs.Common.{◌≡◌, ℕ, ◌⊎◌, Bool, true, false, cond
 use Rattle.mdb_base.specs.declared.names.SiteId.{SiteId}
 use Rattle.mdb_base.specs.declared.names.Tid.{Tid}
 use Rattle.mdb_base.specs.Names.{same_tid}
-use Rattle.mdb_base.specs.Words.{pick, item_at, found}
+use Rattle.mdb_base.specs.Words.{given, item_at, found}
 use Rattle.mdb_base.proofs.NameLaws.{same_tid-refl, same_tid-equal, same_site-refl}
 use Rattle.mdb_base.proofs.Words.{cond-true}
 use Rattle.presumptions.specs.declared.Decision.{Decision}
@@ -87,10 +87,10 @@ settled_now home past tid decision = ap (λ rs. doubt_of rs tid) (settles-record
 
 -- nor behind any decision that is given
 decided_settles : (home : Home) (past : SitePast) (tid : Tid) (decision : Decision) → (doubt_of (records home (of_decide home past tid decision ∷ past)) tid ≡ None) ⊎ (doubt_of (records home past) tid ≡ None)
-unfolding of_decide pick
+unfolding of_decide given
 decided_settles home past tid decision = by_doubt (doubt_of (records home past) tid) refl
   where
-    by_doubt : (o : Option Held) → doubt_of (records home past) tid ≡ o → (doubt_of (records home (pick o (pick (live home past tid) (unheld home tid decision []) (λ run. unheld home tid decision (Aborts tid ∷ []))) (λ held. settles home tid decision) ∷ past)) tid ≡ None) ⊎ (doubt_of (records home past) tid ≡ None)
+    by_doubt : (o : Option Held) → doubt_of (records home past) tid ≡ o → (doubt_of (records home (given o (λ held. settles home tid decision) (given (live home past tid) (λ run. unheld home tid decision (Aborts tid ∷ [])) (unheld home tid decision [])) ∷ past)) tid ≡ None) ⊎ (doubt_of (records home past) tid ≡ None)
     by_doubt None e = inr e
     by_doubt (Some held) e = inl (settled_now home past tid decision)
 
@@ -119,15 +119,15 @@ module _ (session : Session) (fits : CoordinatorFits session) where
   asking tid = record { event = Ev.Ask tid; answer = Say.Asks tid; sends = From.Inquiry tid ∷ []; calls = []; lines = [] }
 
   ask_told : (story : Story) (home : Home) (tid : Tid) (o : Option Held) → IsCalm story → home_of session.plan home.site ≡ Some home → doubt_at home story tid ≡ o
-      → happens session.plan story (Cmd.Ask home.site tid) ≡ AtSite home.site (pick o (quiet (Ev.Ask tid) Say.Idle) (λ held. asking tid))
+      → happens session.plan story (Cmd.Ask home.site tid) ≡ AtSite home.site (given o (λ held. asking tid) (quiet (Ev.Ask tid) Say.Idle))
   unfolding happens of_ask asking
   ask_told story home tid o c d e =
       at_home session.plan story home (Ev.Ask tid) d
-      ∙ ap (λ x. AtSite home.site x) (asks home (past_of home.site story) tid (c.sites home.site) ∙ ap (λ q. pick q (quiet (Ev.Ask tid) Say.Idle) (λ held. asking tid)) e)
+      ∙ ap (λ x. AtSite home.site x) (asks home (past_of home.site story) tid (c.sites home.site) ∙ ap (λ q. given q (λ held. asking tid) (quiet (Ev.Ask tid) Say.Idle)) e)
 
   inquired : (commands : List Command) (home : Home) (tid : Tid) → IsCalm (story_in session commands) → home_of session.plan home.site ≡ Some home → standing (protocols session.plan) (coord_past (story_in session commands)) tid ≡ Gone
       → IsAnswered home tid (story_in session commands) (story_in session (inquire session home.site tid commands))
-  unfolding pick of_take of_inquiry asked_while asking
+  unfolding given of_take of_inquiry asked_while asking
   inquired commands home tid c d g = by_doubt (doubt_at home story tid) refl
     where
       story : Story

@@ -14,7 +14,7 @@ use Rattle.mdb_base.specs.Words.{Each, item_at}
 use Rattle.mdb_base.proofs.ListLaws.{each_map}
 use Rattle.mdb_base.proofs.Words.{when-false, cond-false}
 use Rattle.mdb_base.proofs.NameLaws.{same_site-equal, same_site-refl, same_tx-refl}
-use Rattle.mdb_base.proofs.OptionLaws.{pick_some, pick_none}
+use Rattle.mdb_base.proofs.OptionLaws.{given_some, given_none}
 use Rattle.fed_rules.specs.declared.answers.Answer.TheVariants as Say
 use Rattle.fed_rules.specs.declared.commands.Command.{Command}
 use Rattle.fed_rules.specs.declared.commands.Command.TheVariants as Cmd
@@ -179,9 +179,9 @@ module _ (rights : StoriesHaveRightLines) (epochs : OfSites HasEpochs) (scenario
 
       line : IsLine scenario commands (Cmd.Begin tx) home x
       line = record {
-        told = pick_some (local_home scenario tx) _ _ home here
+        told = given_some (local_home scenario tx) _ _ home here
             ∙ (ap (requested home story) (when-false _ _ _ (lt-leb most_attempts n few))
-            ∙ ap (λ y. AtSite home.site y) (begin_here home past tid (q.calm.sites home.site) ∙ (pick_none _ _ _ none ∙ pick_none _ _ _ none_live)));
+            ∙ ap (λ y. AtSite home.site y) (begin_here home past tid (q.calm.sites home.site) ∙ (given_none _ _ _ none ∙ given_none _ _ _ none_live)));
       }
 
   -- a granted answer neither stops nor starts the site
@@ -248,12 +248,12 @@ module _ (rights : StoriesHaveRightLines) (epochs : OfSites HasEpochs) (scenario
 
       line : IsLine scenario commands (Cmd.Step tid.tx) home x
       line = record {
-        told = pick_some (local_home scenario tid.tx) _ _ home here
+        told = given_some (local_home scenario tid.tx) _ _ home here
             ∙ (ap (requested home story) (when-false _ _ _ (u.calm.sites home.site).up
-            ∙ (pick_some (live_of_tx home past tid.tx) _ _ me.tid found_one
-            ∙ (pick_some (live home past me.tid) _ _ me is_live
-            ∙ pick_some (item_at (program_of scenario tid.tx) (done me)) _ _ step (ap (item_at (program_of scenario tid.tx)) all_done ∙ e))))
-            ∙ ap (λ y. AtSite home.site y) (act_here home past me.tid act (u.calm.sites home.site) ∙ (pick_some (live home past me.tid) _ _ me is_live
+            ∙ (given_some (live_of_tx home past tid.tx) _ _ me.tid found_one
+            ∙ (given_some (live home past me.tid) _ _ me is_live
+            ∙ given_some (item_at (program_of scenario tid.tx) (done me)) _ _ step (ap (item_at (program_of scenario tid.tx)) all_done ∙ e))))
+            ∙ ap (λ y. AtSite home.site y) (act_here home past me.tid act (u.calm.sites home.site) ∙ (given_some (live home past me.tid) _ _ me is_live
             ∙ ap (λ r. with_lines (Ev.Act me.tid act) (act_answer me.tid r act) (Acts me.tid act r ∷ [])) (access_granted start lines me u.alone act))));
       }
 
@@ -313,13 +313,13 @@ module _ (rights : StoriesHaveRightLines) (epochs : OfSites HasEpochs) (scenario
 
       line : IsLine scenario commands (Cmd.Commit tid.tx) home x
       line = record {
-        told = pick_some (local_home scenario tid.tx) _ _ home here
+        told = given_some (local_home scenario tid.tx) _ _ home here
             ∙ (ap (requested home story) (when-false _ _ _ (u.calm.sites home.site).up
-            ∙ (pick_some (live_of_tx home past tid.tx) _ _ me.tid found_one
-            ∙ (pick_some (live home past me.tid) _ _ me is_live
+            ∙ (given_some (live_of_tx home past tid.tx) _ _ me.tid found_one
+            ∙ (given_some (live home past me.tid) _ _ me is_live
             ∙ when-false _ _ _ (le-ltb (done me) (length (program_of scenario tid.tx)) (let c = all_done in omega (arith, c))))))
-            ∙ ap (λ y. AtSite home.site y) (commit_here home past me.tid (u.calm.sites home.site) ∙ (pick_some (live home past me.tid) _ _ me is_live
-            ∙ pick_none _ _ _ (seal_free start lines me u.alone home.engine))));
+            ∙ ap (λ y. AtSite home.site y) (commit_here home past me.tid (u.calm.sites home.site) ∙ (given_some (live home past me.tid) _ _ me is_live
+            ∙ given_none _ _ _ (seal_free start lines me u.alone home.engine))));
       }
 
       now : past_of home.site after ≡ x ∷ past

@@ -5,7 +5,7 @@ use Rattle.mdb_base.specs.declared.names.SiteId.{SiteId}
 use Rattle.mdb_base.specs.declared.names.Tid.{Tid}
 use Rattle.mdb_base.specs.declared.names.Tx.{Tx}
 use Rattle.mdb_base.specs.Names.{same_site, same_tx}
-use Rattle.mdb_base.specs.Words.{when, pick, first_where, map_some}
+use Rattle.mdb_base.specs.Words.{when, given, first_where, map_some}
 use Rattle.mdb_base.specs.declared.replies.Reply.TheVariants as Reply_is
 use Rattle.mdb_base.proofs.NameLaws.{same_site-equal, same_tx-equal}
 use Rattle.mdb_base.proofs.OptionLaws.{some_parts}
@@ -52,10 +52,10 @@ module _ (tx : Tx) (event : SiteEvent) where
   begins_when true a b p q = p
   begins_when false a b p q = q
 
-  begins_pick : {A : Type 0} (o : Option A) (none : SiteHappening) (some : A → SiteHappening) → Begins tx event none → ((x : A) → Begins tx event (some x)) → Begins tx event (pick o none some)
-  unfolding pick
-  begins_pick None none some p q = p
-  begins_pick (Some x) none some p q = q x
+  begins_given : {A : Type 0} (o : Option A) (none : SiteHappening) (some : A → SiteHappening) → Begins tx event none → ((x : A) → Begins tx event (some x)) → Begins tx event (given o some none)
+  unfolding given
+  begins_given None none some p q = p
+  begins_given (Some x) none some p q = q x
 
   begins_none : (x : SiteHappening) → begins_tx tx x.answer ≡ false → Begins tx event x
   begins_none x e = record { begins = λ t. (let clash = sym e ∙ t in cc) }
@@ -81,7 +81,7 @@ module _ (tx : Tx) (home : Home) (past : SitePast) where
   unfolding of_work work_live first_work next_work repeated unknown did
   by_work tid e n act =
       begins_when tx _ _ _ _ (begins_none tx _ _ refl)
-      (begins_pick tx _ _ _ _ (begins_when tx _ _ _ _ (begins_none tx _ _ refl) (begins_none tx _ _ refl))
+      (begins_given tx _ _ _ _ (begins_when tx _ _ _ _ (begins_none tx _ _ refl) (begins_none tx _ _ refl))
       (λ run. begins_when tx _ _ _ _ (begins_none tx _ _ refl)
       (begins_when tx _ _ _ _ (begins_none tx _ _ refl) (begins_when tx _ _ _ _ (begins_none tx _ _ refl) (begins_none tx _ _ refl)))))
 
@@ -89,25 +89,25 @@ module _ (tx : Tx) (home : Home) (past : SitePast) where
   unfolding of_take take_live next_take repeated unknown did
   by_take tid e n =
       begins_when tx _ _ _ _ (begins_none tx _ _ refl)
-      (begins_pick tx _ _ _ _ (begins_none tx _ _ refl)
+      (begins_given tx _ _ _ _ (begins_none tx _ _ refl)
       (λ run. begins_when tx _ _ _ _ (begins_none tx _ _ refl)
       (begins_when tx _ _ _ _ (begins_none tx _ _ refl) (begins_when tx _ _ _ _ (begins_none tx _ _ refl) (begins_none tx _ _ refl)))))
 
   by_prepare : (tid : Tid) (e n : ℕ) → Begins tx (Ev.Give (To.Prepare tid e n)) (of_prepare home past tid e n)
   unfolding of_prepare prepare_live seals_global votes_yes votes_again votes_no
   by_prepare tid e n =
-      begins_pick tx _ _ _ _
-      (begins_pick tx _ _ _ _ (begins_none tx _ _ refl)
+      begins_given tx _ _ _ _
+      (begins_given tx _ _ _ _ (begins_none tx _ _ refl)
       (λ run. begins_when tx _ _ _ _
-      (begins_pick tx _ _ _ _ (begins_none tx _ _ refl)
-      (λ ticket. begins_pick tx _ _ _ _ (begins_none tx _ _ refl) (λ why. begins_none tx _ _ refl)))
+      (begins_given tx _ _ _ _ (begins_none tx _ _ refl)
+      (λ ticket. begins_given tx _ _ _ _ (begins_none tx _ _ refl) (λ why. begins_none tx _ _ refl)))
       (begins_none tx _ _ refl)))
       (λ held. begins_when tx _ _ _ _ (begins_none tx _ _ refl) (begins_none tx _ _ refl))
 
   by_decide : (tid : Tid) (decision : Decision) → Begins tx (Ev.Give (To.Decide tid decision)) (of_decide home past tid decision)
   unfolding of_decide settles unheld
   by_decide tid decision =
-      begins_pick tx _ _ _ _ (begins_pick tx _ _ _ _ (begins_none tx _ _ refl) (λ run. begins_none tx _ _ refl)) (λ held. begins_none tx _ _ refl)
+      begins_given tx _ _ _ _ (begins_given tx _ _ _ _ (begins_none tx _ _ refl) (λ run. begins_none tx _ _ refl)) (λ held. begins_none tx _ _ refl)
 
   by_give : (message : ToSite) → Begins tx (Ev.Give message) (of_give home past message)
   unfolding of_give
@@ -119,8 +119,8 @@ module _ (tx : Tx) (home : Home) (past : SitePast) where
   by_fate : (of : Tx) → Begins tx (Ev.Fate of) (of_fate home past of)
   unfolding of_fate
   by_fate of =
-      begins_pick tx _ _ _ _
-      (begins_pick tx _ _ _ _ (by_count (attempts_of past of == 0)) (λ running. begins_none tx _ _ refl))
+      begins_given tx _ _ _ _
+      (begins_given tx _ _ _ _ (by_count (attempts_of past of == 0)) (λ running. begins_none tx _ _ refl))
       (λ committed. begins_none tx _ _ refl)
     where
       by_count : (b : Bool) → Begins tx (Ev.Fate of) (quiet (Ev.Fate of) (cond b Say.Unbegun Say.Ended))
@@ -131,23 +131,23 @@ module _ (tx : Tx) (home : Home) (past : SitePast) where
   unfolding site_line answered of_begin of_act of_commit of_abort of_ask of_drop of_back of_check seals_local stopped
   by_line (Ev.Begin tid) =
       begins_up tx _ home past _
-      (begins_pick tx _ _ _ _
-      (begins_pick tx _ _ _ _ (record { begins = λ e. e }) (λ running. begins_none tx _ _ refl))
+      (begins_given tx _ _ _ _
+      (begins_given tx _ _ _ _ (record { begins = λ e. e }) (λ running. begins_none tx _ _ refl))
       (λ committed. begins_none tx _ _ refl))
   by_line (Ev.Act tid act) =
       begins_up tx _ home past _
-      (begins_pick tx _ _ _ _ (begins_none tx _ _ refl) (λ run. begins_none tx _ _ (act_begins-none tx tid (reply_to home past run act) act)))
+      (begins_given tx _ _ _ _ (begins_none tx _ _ refl) (λ run. begins_none tx _ _ (act_begins-none tx tid (reply_to home past run act) act)))
   by_line (Ev.Commit tid) =
       begins_up tx _ home past _
-      (begins_pick tx _ _ _ _ (begins_none tx _ _ refl)
-      (λ run. begins_pick tx _ _ _ _ (begins_none tx _ _ refl) (λ why. begins_none tx _ _ (refusal_answer-is (λ a. begins_tx tx a ≡ false) (λ by key. refl) refl why))))
-  by_line (Ev.Abort tid) = begins_up tx _ home past _ (begins_pick tx _ _ _ _ (begins_none tx _ _ refl) (λ run. begins_none tx _ _ refl))
+      (begins_given tx _ _ _ _ (begins_none tx _ _ refl)
+      (λ run. begins_given tx _ _ _ _ (begins_none tx _ _ refl) (λ why. begins_none tx _ _ (refusal_answer-is (λ a. begins_tx tx a ≡ false) (λ by key. refl) refl why))))
+  by_line (Ev.Abort tid) = begins_up tx _ home past _ (begins_given tx _ _ _ _ (begins_none tx _ _ refl) (λ run. begins_none tx _ _ refl))
   by_line (Ev.Fate of) = begins_up tx _ home past _ (by_fate of)
   by_line (Ev.Give message) = begins_up tx _ home past _ (by_give message)
-  by_line (Ev.Ask tid) = begins_up tx _ home past _ (begins_pick tx _ _ _ _ (begins_none tx _ _ refl) (λ held. begins_none tx _ _ refl))
+  by_line (Ev.Ask tid) = begins_up tx _ home past _ (begins_given tx _ _ _ _ (begins_none tx _ _ refl) (λ held. begins_none tx _ _ refl))
   by_line (Ev.Drop tid) =
       begins_up tx _ home past _
-      (begins_when tx _ _ _ _ (begins_none tx _ _ refl) (begins_pick tx _ _ _ _ (begins_none tx _ _ refl) (λ run. begins_none tx _ _ refl)))
+      (begins_when tx _ _ _ _ (begins_none tx _ _ refl) (begins_given tx _ _ _ _ (begins_none tx _ _ refl) (λ run. begins_none tx _ _ refl)))
   by_line (Ev.Halt cut) = begins_when tx _ _ _ _ (begins_none tx _ _ refl) (begins_none tx _ _ refl)
   by_line (Ev.Trip calls cut) = begins_none tx _ _ refl
   by_line Ev.Back = begins_when tx _ _ _ _ (begins_tripped tx _ home past (trip past) _ (begins_none tx _ _ refl)) (begins_none tx _ _ refl)

@@ -4,7 +4,7 @@ use Rattle.mdb_base.specs.declared.names.SiteId.{SiteId}
 use Rattle.mdb_base.specs.declared.names.Tid.{Tid}
 use Rattle.mdb_base.specs.declared.names.Tx.{Tx}
 use Rattle.mdb_base.specs.Names.{same_site}
-use Rattle.mdb_base.specs.Words.{when, pick, item_at}
+use Rattle.mdb_base.specs.Words.{when, given, item_at}
 use Rattle.mdb_base.proofs.NameLaws.{same_site-equal}
 use Rattle.mdb_base.proofs.OptionLaws.{some_parts}
 use Rattle.mdb_base.proofs.PlaceLaws.{item_at-front}
@@ -143,11 +143,11 @@ unfolding when
 gentle_when scenario story true a b p q = p
 gentle_when scenario story false a b p q = q
 
-gentle_pick : {A : Type 0} (scenario : Scenario) (story : Story) (o : Option A) (none : Happened) (some : A → Happened) → IsGentle scenario story none
-    → ((x : A) → o ≡ Some x → IsGentle scenario story (some x)) → IsGentle scenario story (pick o none some)
-unfolding pick
-gentle_pick scenario story None none some p q = p
-gentle_pick scenario story (Some x) none some p q = q x refl
+gentle_given : {A : Type 0} (scenario : Scenario) (story : Story) (o : Option A) (none : Happened) (some : A → Happened) → IsGentle scenario story none
+    → ((x : A) → o ≡ Some x → IsGentle scenario story (some x)) → IsGentle scenario story (given o some none)
+unfolding given
+gentle_given scenario story None none some p q = p
+gentle_given scenario story (Some x) none some p q = q x refl
 
 pub gentle_nowhere : (scenario : Scenario) (story : Story) (answer : Answer) → IsGentle scenario story (Nowhere answer)
 gentle_nowhere scenario story answer = record { mildly = tt }
@@ -180,15 +180,15 @@ gentle_abort scenario story tx c = by_line (happens scenario story (Cmd.Abort tx
 
 -- an event of a declared site is its next line
 pub at_home : (scenario : Scenario) (story : Story) (home : Home) (event : SiteEvent) → home_of scenario home.site ≡ Some home → on_site scenario story home.site event ≡ at_site home story event
-unfolding on_site pick
-at_home scenario story home event d = ap (λ o. pick o (Nowhere Say.None) (λ h. at_site h story event)) d
+unfolding on_site given
+at_home scenario story home event d = ap (λ o. given o (λ h. at_site h story event) (Nowhere Say.None)) d
 
 -- an event of a site, where it is mild
 pub gentle_on_site : (scenario : Scenario) (story : Story) (site : SiteId) (event : SiteEvent) → ((home : Home) → IsMild home (past_of home.site story) (site_line home (past_of home.site story) event))
     → IsGentle scenario story (on_site scenario story site event)
 unfolding on_site
 gentle_on_site scenario story site event m =
-    gentle_pick scenario story (home_of scenario site) _ _ (gentle_nowhere scenario story _) (λ home d. gentle_site scenario story home _ (home-again scenario site home d) (m home))
+    gentle_given scenario story (home_of scenario site) _ _ (gentle_nowhere scenario story _) (λ home d. gentle_site scenario story home _ (home-again scenario site home d) (m home))
 
 pub gentle_drop : (scenario : Scenario) (story : Story) (site : SiteId) (tid : Tid) → IsCalm story → IsGentle scenario story (happens scenario story (Cmd.Drop site tid))
 unfolding happens
@@ -207,7 +207,7 @@ pub gentle_give : (scenario : Scenario) (story : Story) (site : SiteId) (n : ℕ
     → IsGentle scenario story (happens scenario story (Cmd.Give site n))
 unfolding happens on_give of_give
 gentle_give scenario story site n tid decision c e =
-    gentle_pick scenario story (item_at (sent_to site story) n) _ _ (gentle_nowhere scenario story _) (λ message f.
+    gentle_given scenario story (item_at (sent_to site story) n) _ _ (gentle_nowhere scenario story _) (λ message f.
     (let same : To.Decide tid decision ≡ message = some_parts (sym e ∙ f) in
     subst (λ m. IsGentle scenario story (on_site scenario story site (Ev.Give m))) same
     (gentle_on_site scenario story site (Ev.Give (To.Decide tid decision)) (λ home.

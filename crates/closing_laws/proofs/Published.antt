@@ -5,7 +5,7 @@ use Rattle.mdb_base.specs.declared.rows.Put.{Put}
 use Rattle.mdb_base.specs.declared.names.SiteTicket.{SiteTicket}
 use Rattle.mdb_base.specs.declared.names.Tid.{Tid}
 use Rattle.mdb_base.specs.Names.{same_site}
-use Rattle.mdb_base.specs.Words.{Each, Among, when, pick, or_else}
+use Rattle.mdb_base.specs.Words.{Each, Among, when, given, or_else}
 use Rattle.mdb_base.proofs.NameLaws.{same_site-equal}
 use Rattle.mdb_base.proofs.EachLaws.{among_append}
 use Rattle.presumptions.specs.declared.Decision.{Decision}
@@ -84,10 +84,10 @@ module _ (home : Home) (past : SitePast) (h : IsPublished home past) where
   below_when true x y p q = p
   below_when false x y p q = q
 
-  below_pick : {A : Type 0} (o : Option A) (x : SiteHappening) (some : A → SiteHappening) → IsPublished home (x ∷ past) → ((z : A) → o ≡ Some z → IsPublished home (some z ∷ past)) → IsPublished home (pick o x some ∷ past)
-  unfolding pick
-  below_pick None x some p q = p
-  below_pick (Some z) x some p q = q z refl
+  below_given : {A : Type 0} (o : Option A) (x : SiteHappening) (some : A → SiteHappening) → IsPublished home (x ∷ past) → ((z : A) → o ≡ Some z → IsPublished home (some z ∷ past)) → IsPublished home (given o some x ∷ past)
+  unfolding given
+  below_given None x some p q = p
+  below_given (Some z) x some p q = q z refl
 
   below_tripped : (t : Option Trip) (x : SiteHappening) → IsPublished home (x ∷ past) → IsPublished home (tripped site_frame (disk home past) t x ∷ past)
   unfolding tripped stopped
@@ -101,14 +101,14 @@ module _ (home : Home) (past : SitePast) (h : IsPublished home past) where
   unfolding of_work work_live first_work next_work repeated unknown did
   by_work tid e n act =
       below_when _ _ _ (unprepared _ refl refl)
-      (below_pick (live home past tid) _ _ (below_when _ _ _ (unprepared _ refl refl) (unprepared _ refl refl))
+      (below_given (live home past tid) _ _ (below_when _ _ _ (unprepared _ refl refl) (unprepared _ refl refl))
       (λ run f. below_when _ _ _ (unprepared _ refl refl) (below_when _ _ _ (unprepared _ refl refl) (below_when _ _ _ (unprepared _ refl refl) (unprepared _ refl refl)))))
 
   by_take : (tid : Tid) (e n : ℕ) → IsPublished home (of_take home past tid e n ∷ past)
   unfolding of_take take_live next_take repeated unknown did
   by_take tid e n =
       below_when _ _ _ (unprepared _ refl refl)
-      (below_pick (live home past tid) _ _ (unprepared _ refl refl)
+      (below_given (live home past tid) _ _ (unprepared _ refl refl)
       (λ run f. below_when _ _ _ (unprepared _ refl refl) (below_when _ _ _ (unprepared _ refl refl) (below_when _ _ _ (unprepared _ refl refl) (unprepared _ refl refl)))))
 
   by_yes : (tid : Tid) (e n : ℕ) (run : Run) (ticket : ℕ) → live home past tid ≡ Some run → run.ticket ≡ Some ticket → IsPublished home (votes_yes home past tid e n run ticket ∷ past)
@@ -121,11 +121,11 @@ module _ (home : Home) (past : SitePast) (h : IsPublished home past) where
   by_prepare : (tid : Tid) (e n : ℕ) → IsPublished home (of_prepare home past tid e n ∷ past)
   unfolding of_prepare prepare_live seals_global votes_again votes_no
   by_prepare tid e n =
-      below_pick (doubt_of (records home past) tid) _ _
-      (below_pick (live home past tid) _ _ (unprepared _ refl refl)
+      below_given (doubt_of (records home past) tid) _ _
+      (below_given (live home past tid) _ _ (unprepared _ refl refl)
       (λ run f. below_when _ _ _
-      (below_pick run.ticket _ _ (unprepared _ refl refl)
-      (λ ticket t. below_pick (stop_of home past run) _ _ (by_yes tid e n run ticket f t) (λ why s. unprepared _ refl refl)))
+      (below_given run.ticket _ _ (unprepared _ refl refl)
+      (λ ticket t. below_given (stop_of home past run) _ _ (by_yes tid e n run ticket f t) (λ why s. unprepared _ refl refl)))
       (unprepared _ refl refl)))
       (λ held f. below_when _ _ _ (unprepared _ refl refl) (unprepared _ refl refl))
 
@@ -136,15 +136,15 @@ module _ (home : Home) (past : SitePast) (h : IsPublished home past) where
   by_decide : (tid : Tid) (decision : Decision) → IsPublished home (of_decide home past tid decision ∷ past)
   unfolding of_decide unheld
   by_decide tid decision =
-      below_pick (doubt_of (records home past) tid) _ _ (below_pick (live home past tid) _ _ (unprepared _ refl refl) (λ run f. unprepared _ refl refl)) (λ held f. by_settles tid decision)
+      below_given (doubt_of (records home past) tid) _ _ (below_given (live home past tid) _ _ (unprepared _ refl refl) (λ run f. unprepared _ refl refl)) (λ held f. by_settles tid decision)
 
   by_line : (event : SiteEvent) → IsPublished home (site_line home past event ∷ past)
   unfolding site_line answered of_begin of_act of_commit of_abort of_fate of_give of_ask of_drop of_back of_check seals_local stopped
-  by_line (Ev.Begin tid) = below_up _ _ (below_pick _ _ _ (below_pick _ _ _ (unprepared _ refl refl) (λ z f. unprepared _ refl refl)) (λ z f. unprepared _ refl refl))
-  by_line (Ev.Act tid act) = below_up _ _ (below_pick (live home past tid) _ _ (unprepared _ refl refl) (λ run f. unprepared _ (act_plain tid (reply_to home past run act) act) refl))
-  by_line (Ev.Commit tid) = below_up _ _ (below_pick (live home past tid) _ _ (unprepared _ refl refl) (λ run f. below_pick (stop_of home past run) _ _ (unprepared _ refl refl) (λ why s. unprepared _ (refusal_plain why) refl)))
-  by_line (Ev.Abort tid) = below_up _ _ (below_pick (live home past tid) _ _ (unprepared _ refl refl) (λ run f. unprepared _ refl refl))
-  by_line (Ev.Fate tx) = below_up _ _ (below_pick (local_of (records home past) tx) _ _ (below_pick (live_of_tx home past tx) _ _ (by_count (attempts_of past tx == 0)) (λ z f. unprepared _ refl refl)) (λ z f. unprepared _ refl refl))
+  by_line (Ev.Begin tid) = below_up _ _ (below_given _ _ _ (below_given _ _ _ (unprepared _ refl refl) (λ z f. unprepared _ refl refl)) (λ z f. unprepared _ refl refl))
+  by_line (Ev.Act tid act) = below_up _ _ (below_given (live home past tid) _ _ (unprepared _ refl refl) (λ run f. unprepared _ (act_plain tid (reply_to home past run act) act) refl))
+  by_line (Ev.Commit tid) = below_up _ _ (below_given (live home past tid) _ _ (unprepared _ refl refl) (λ run f. below_given (stop_of home past run) _ _ (unprepared _ refl refl) (λ why s. unprepared _ (refusal_plain why) refl)))
+  by_line (Ev.Abort tid) = below_up _ _ (below_given (live home past tid) _ _ (unprepared _ refl refl) (λ run f. unprepared _ refl refl))
+  by_line (Ev.Fate tx) = below_up _ _ (below_given (local_of (records home past) tx) _ _ (below_given (live_of_tx home past tx) _ _ (by_count (attempts_of past tx == 0)) (λ z f. unprepared _ refl refl)) (λ z f. unprepared _ refl refl))
     where
       by_count : (b : Bool) → IsPublished home (quiet (Ev.Fate tx) (cond b Say.Unbegun Say.Ended) ∷ past)
       by_count true = unprepared _ refl refl
@@ -153,8 +153,8 @@ module _ (home : Home) (past : SitePast) (h : IsPublished home past) where
   by_line (Ev.Give (To.Take tid e n)) = below_up _ _ (by_take tid e n)
   by_line (Ev.Give (To.Prepare tid e n)) = below_up _ _ (by_prepare tid e n)
   by_line (Ev.Give (To.Decide tid decision)) = below_up _ _ (by_decide tid decision)
-  by_line (Ev.Ask tid) = below_up _ _ (below_pick (doubt_of (records home past) tid) _ _ (unprepared _ refl refl) (λ z f. unprepared _ refl refl))
-  by_line (Ev.Drop tid) = below_up _ _ (below_when _ _ _ (unprepared _ refl refl) (below_pick (live home past tid) _ _ (unprepared _ refl refl) (λ run f. unprepared _ refl refl)))
+  by_line (Ev.Ask tid) = below_up _ _ (below_given (doubt_of (records home past) tid) _ _ (unprepared _ refl refl) (λ z f. unprepared _ refl refl))
+  by_line (Ev.Drop tid) = below_up _ _ (below_when _ _ _ (unprepared _ refl refl) (below_given (live home past tid) _ _ (unprepared _ refl refl) (λ run f. unprepared _ refl refl)))
   by_line (Ev.Halt cut) = below_when _ _ _ (unprepared _ refl refl) (renews _ refl)
   by_line (Ev.Trip calls cut) = unprepared _ refl refl
   by_line Ev.Back = below_when _ _ _ (below_tripped (trip past) _ (renews _ refl)) (unprepared _ refl refl)

@@ -2,7 +2,7 @@
 use Rattle.std.proofs.Common.{◌≡◌, ℕ, zero, suc, ◌⊎◌, Bool, true, false, cond, is_some, Option, Some, None, List, [], ◌∷◌, length, inl, inr, refl, sym, ap, subst, ◌∙◌}
 use Rattle.mdb_base.specs.declared.names.SiteId.{SiteId}
 use Rattle.mdb_base.specs.Names.{same_site}
-use Rattle.mdb_base.specs.Words.{pick, those}
+use Rattle.mdb_base.specs.Words.{given, those}
 use Rattle.mdb_base.proofs.Words.{when-true, when-false}
 use Rattle.mdb_base.proofs.NameLaws.{same_site-equal, same_site-refl}
 use Rattle.presumptions.specs.declared.Participant.{Participant}
@@ -94,11 +94,11 @@ module _ (session : Session) where
   -- what an event of an actor leaves of a site: its past, or that with its next line
   left : (P : SitePast → Type 0) (story : Story) (actor : ℕ) (c : _) (s : _) (home : Home) → home_of session.plan home.site ≡ Some home → P (past_of home.site story)
       → P (site_line home (past_of home.site story) s ∷ past_of home.site story) → P (with_site home.site (on_actor session.plan story actor c s) (past_of home.site story))
-  unfolding on_actor on_site pick
+  unfolding on_actor on_site given
   left P story zero c s home d old new = old
   left P story (suc n) c s home d old new = by_home (home_of session.plan (record { 0 = suc n })) refl
     where
-      by_home : (o : Option Home) → home_of session.plan (record { 0 = suc n }) ≡ o → P (with_site home.site (pick o (Nowhere Say.None) (λ h. at_site h story s)) (past_of home.site story))
+      by_home : (o : Option Home) → home_of session.plan (record { 0 = suc n }) ≡ o → P (with_site home.site (given o (λ h. at_site h story s) (Nowhere Say.None)) (past_of home.site story))
       by_home None e = old
       by_home (Some other) e = by_test (same_site other.site home.site) refl
         where
@@ -118,11 +118,11 @@ module _ (session : Session) where
 
   left_coordinator : (P : CoordPast → Type 0) (story : Story) (actor : ℕ) (c : _) (s : _) → P (coord_past story)
       → P (coord_line (protocols session.plan) (policy session.plan) (coord_past story) c ∷ coord_past story) → P (with_coordinator (on_actor session.plan story actor c s) (coord_past story))
-  unfolding on_actor on_site pick
+  unfolding on_actor on_site given
   left_coordinator P story zero c s old new = new
   left_coordinator P story (suc n) c s old new = by_home (home_of session.plan (record { 0 = suc n }))
     where
-      by_home : (o : Option Home) → P (with_coordinator (pick o (Nowhere Say.None) (λ h. at_site h story s)) (coord_past story))
+      by_home : (o : Option Home) → P (with_coordinator (given o (λ h. at_site h story s) (Nowhere Say.None)) (coord_past story))
       by_home None = old
       by_home (Some other) = old
 

@@ -2,7 +2,7 @@
 use Rattle.std.proofs.Common.{◌≡◌, ◌⊎◌, ℕ, suc, ◌+◌, ◌≤◌, Bool, true, false, nat_le, Option, Some, None, List, [], ◌∷◌, map, length, inl, inr, refl, sym, ap, subst, ◌∙◌, arith}
 use Rattle.mdb_base.specs.declared.names.SiteId.{SiteId}
 use Rattle.mdb_base.specs.declared.names.Tid.{Tid}
-use Rattle.mdb_base.specs.Words.{pick, when}
+use Rattle.mdb_base.specs.Words.{given, when}
 use Rattle.mdb_base.proofs.TestLaws.{length_those}
 use Rattle.presumptions.specs.declared.Participant.{Participant}
 use Rattle.fed_rules.specs.declared.answers.Answer.TheVariants as Say
@@ -81,11 +81,11 @@ asks_tripped tid d None x p = p
 asks_tripped tid d (Some t) x p = asks_when tid (nat_le t.calls (length x.calls)) _ _ (record { sends = inl refl }) p
 
 asks_doubt : (home : Home) (past : SitePast) (tid : Tid) → MayAsk tid (of_ask home past tid)
-unfolding of_ask pick
+unfolding of_ask given
 asks_doubt home past tid = by_doubt (doubt_of (records home past) tid)
   where
     by_doubt : (o : Option Held)
-        → MayAsk tid (pick o (quiet (Site_event.Ask tid) Say.Idle) (λ held. record { event = Site_event.Ask tid; answer = Say.Asks tid; sends = From.Inquiry tid ∷ []; calls = []; lines = [] }))
+        → MayAsk tid (given o (λ held. record { event = Site_event.Ask tid; answer = Say.Asks tid; sends = From.Inquiry tid ∷ []; calls = []; lines = [] }) (quiet (Site_event.Ask tid) Say.Idle))
     by_doubt None = record { sends = inl refl }
     by_doubt (Some held) = record { sends = inr refl }
 

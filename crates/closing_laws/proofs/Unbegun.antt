@@ -3,7 +3,7 @@ use Rattle.std.proofs.Common.{◌≡◌, ◌≤◌, Bool, true, false, cond, ◌
 use Rattle.mdb_base.specs.declared.names.Tid.{Tid}
 use Rattle.mdb_base.specs.declared.names.Tx.{Tx}
 use Rattle.mdb_base.specs.Names.{same_site, same_tid}
-use Rattle.mdb_base.specs.Words.{Each, when, pick, some_of}
+use Rattle.mdb_base.specs.Words.{Each, when, given, some_of}
 use Rattle.mdb_base.proofs.NameLaws.{same_tid-equal, same_tid-refl, same_tx-equal}
 use Rattle.presumptions.specs.declared.Decision.{Decision}
 use Rattle.order_laws.specs.Chains.{In}
@@ -85,10 +85,10 @@ module _ (home : Home) (past : SitePast) (g : Tid) where
   none_when true x y p q = p
   none_when false x y p q = q
 
-  none_pick : {A : Type 0} (o : Option A) (x : SiteHappening) (some : A → SiteHappening) → EndsNone g x → ((z : A) → EndsNone g (some z)) → EndsNone g (pick o x some)
-  unfolding pick
-  none_pick None x some p q = p
-  none_pick (Some z) x some p q = q z
+  none_given : {A : Type 0} (o : Option A) (x : SiteHappening) (some : A → SiteHappening) → EndsNone g x → ((z : A) → EndsNone g (some z)) → EndsNone g (given o some x)
+  unfolding given
+  none_given None x some p q = p
+  none_given (Some z) x some p q = q z
 
   none_tripped : (t : Option Trip) (x : SiteHappening) → EndsNone g x → EndsNone g (tripped site_frame (disk home past) t x)
   unfolding tripped stopped
@@ -102,14 +102,14 @@ module _ (home : Home) (past : SitePast) (g : Tid) where
   none_up event x p = none_when _ _ _ (record { none = refl }) (none_tripped (trip past) x p)
 
   none_drop : (t : Tid) → live home past g ≡ None → EndsNone g (of_drop home past t)
-  unfolding of_drop pick
+  unfolding of_drop given
   none_drop t e = by_test (same_tid t g) refl
     where
       by_test : (b : Bool) → same_tid t g ≡ b → EndsNone g (of_drop home past t)
       by_test false q = none_about t (of_drop home past t) (drop_about home past t) q
       by_test true q =
           none_when _ _ _ (record { none = refl })
-          (subst (λ o. EndsNone g (pick o (quiet (Ev.Drop t) Say.Idle) (λ run. with_lines (Ev.Drop t) (Say.Dropped t) (Aborts t ∷ [])))) (sym (ap (live home past) (same_tid-equal t g q) ∙ e)) (record { none = refl }))
+          (subst (λ o. EndsNone g (given o (λ run. with_lines (Ev.Drop t) (Say.Dropped t) (Aborts t ∷ [])) (quiet (Ev.Drop t) Say.Idle))) (sym (ap (live home past) (same_tid-equal t g q) ∙ e)) (record { none = refl }))
 
   none_line : (event : SiteEvent) → IsOff g event → live home past g ≡ None → EndsNone g (site_line home past event)
   unfolding site_line answered stopped of_ask of_fate of_back of_check of_give
@@ -117,12 +117,12 @@ module _ (home : Home) (past : SitePast) (g : Tid) where
   none_line (Ev.Act t act) off e = none_up _ _ (none_about t _ (act_about home past t act) off)
   none_line (Ev.Commit t) off e = none_up _ _ (none_about t _ (commit_about home past t) off)
   none_line (Ev.Abort t) off e = none_up _ _ (none_about t _ (abort_about home past t) off)
-  none_line (Ev.Fate tx) off e = none_up _ _ (none_pick (local_of (records home past) tx) _ _ (none_pick (live_of_tx home past tx) _ _ (record { none = refl }) (λ z. record { none = refl })) (λ z. record { none = refl }))
+  none_line (Ev.Fate tx) off e = none_up _ _ (none_given (local_of (records home past) tx) _ _ (none_given (live_of_tx home past tx) _ _ (record { none = refl }) (λ z. record { none = refl })) (λ z. record { none = refl }))
   none_line (Ev.Give (To.Work t ep n act)) off e = none_up _ _ (none_about t _ (work_about home past t ep n act) off)
   none_line (Ev.Give (To.Take t ep n)) off e = none_up _ _ (none_about t _ (take_about home past t ep n) off)
   none_line (Ev.Give (To.Prepare t ep n)) off e = none_up _ _ (none_about t _ (prepare_about home past t ep n) off)
   none_line (Ev.Give (To.Decide t decision)) off e = none_up _ _ (none_about t _ (decide_about home past t decision) off)
-  none_line (Ev.Ask t) off e = none_up _ _ (none_pick (doubt_of (records home past) t) _ _ (record { none = refl }) (λ z. record { none = refl }))
+  none_line (Ev.Ask t) off e = none_up _ _ (none_given (doubt_of (records home past) t) _ _ (record { none = refl }) (λ z. record { none = refl }))
   none_line (Ev.Drop t) off e = none_up _ _ (none_drop t e)
   none_line (Ev.Halt cut) off e = none_when _ _ _ (record { none = refl }) (record { none = refl })
   none_line (Ev.Trip calls cut) off e = record { none = refl }

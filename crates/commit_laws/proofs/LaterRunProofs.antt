@@ -4,7 +4,7 @@ use Rattle.std.proofs.lemmas.Bool.{or_right, or_cases}
 use Rattle.mdb_base.specs.declared.acts.Step.{Step}
 use Rattle.mdb_base.specs.declared.names.Tid.{Tid}
 use Rattle.mdb_base.specs.Names.{same_site}
-use Rattle.mdb_base.specs.Words.{Among, pick}
+use Rattle.mdb_base.specs.Words.{Among, given}
 use Rattle.mdb_base.proofs.NameLaws.{same_tid-equal, same_site-refl, same_site-equal}
 use Rattle.mdb_base.proofs.Words.{when-false}
 use Rattle.presumptions.specs.declared.Decision.{Decision}
@@ -166,10 +166,10 @@ later-runs-leave-no-record scenario commands site home declared =
 -- the rule of a decision on a live run
 live_decide : (home : Home) (past : SitePast) (tid : Tid) (decision : Decision) (run : Run) → doubt_of (records home past) tid ≡ None
     → live home past tid ≡ Some run → of_decide home past tid decision ≡ unheld home tid decision (Aborts tid ∷ [])
-unfolding of_decide pick
+unfolding of_decide given
 live_decide home past tid decision run free alive =
-    ap (λ o. pick o (pick (live home past tid) (unheld home tid decision []) (λ r. unheld home tid decision (Aborts tid ∷ []))) (λ held. settles home tid decision)) free
-    ∙ ap (λ o. pick o (unheld home tid decision []) (λ r. unheld home tid decision (Aborts tid ∷ []))) alive
+    ap (λ o. given o (λ held. settles home tid decision) (given (live home past tid) (λ r. unheld home tid decision (Aborts tid ∷ [])) (unheld home tid decision []))) free
+    ∙ ap (λ o. given o (λ r. unheld home tid decision (Aborts tid ∷ [])) (unheld home tid decision [])) alive
 
 unheld_calls : (home : Home) (tid : Tid) (decision : Decision) → (unheld home tid decision (Aborts tid ∷ [])).calls ≡ []
 unfolding unheld

@@ -26,7 +26,7 @@ use Rattle.commit_laws.specs.Seals.{appends_prepared}
 use Rattle.commit_laws.proofs.SiteFacts.{WroteOne, IsSettling, IsAcking, Says, Shut, Step}
 use Rattle.commit_laws.proofs.SiteShut.{other-line, this-line, shut-on, restored-sealed}
 use Rattle.rules_laws.proofs.Disks.{appended, IsQuiet}
-use Rattle.commit_laws.proofs.SiteRules.{step-pick, quietly, by-begin, by-act, by-commit, by-abort, by-fate, by-drop, by-ask, step-when}
+use Rattle.commit_laws.proofs.SiteRules.{step-given, quietly, by-begin, by-act, by-commit, by-abort, by-fate, by-drop, by-ask, step-when}
 use Rattle.commit_laws.proofs.SiteWork.{by-work, by-take, by-prepare}
 use Rattle.order_laws.proofs.Alike.{of_same}
 use Rattle.std.specs.Prelude.{nat_lt}
@@ -162,8 +162,8 @@ by-decide : (home : Home) (g : Tid) (past : SitePast) (tid : Tid) (d : Decision)
     → Step home g past (Ev.Give (To.Decide tid d)) (of_decide home past tid d)
 unfolding of_decide
 by-decide home g past tid d up =
-    step-pick home g past (Ev.Give (To.Decide tid d)) _ _ _
-    (λ free. step-pick home g past (Ev.Give (To.Decide tid d)) _ _ _
+    step-given home g past (Ev.Give (To.Decide tid d)) _ _ _
+    (λ free. step-given home g past (Ev.Give (To.Decide tid d)) _ _ _
     (λ dead. by-unheld home g past tid d [] up free (λ q. of_same (λ u. live home past u ≡ None) tid g dead q) (λ q. (refl, refl)))
     (λ run alive. by-unheld home g past tid d (Aborts tid ∷ []) up free
     (λ q. ap live_one (this-line (epoch_start home past) (engine_lines past) g (Aborts tid) q))

@@ -9,7 +9,7 @@ use Rattle.mdb_base.specs.declared.replies.Reply.TheVariants as Reply_is
 use Rattle.mdb_base.specs.declared.replies.Why.{Why}
 use Rattle.mdb_base.specs.declared.replies.Why.TheVariants as Because
 use Rattle.mdb_base.specs.Names.{same_tid}
-use Rattle.mdb_base.specs.Words.{Each, when, pick, some_of}
+use Rattle.mdb_base.specs.Words.{Each, when, given, some_of}
 use Rattle.fed_rules.specs.declared.answers.Answer.{Answer}
 use Rattle.fed_rules.specs.declared.answers.Answer.TheVariants as Say
 use Rattle.fed_rules.specs.declared.events.SiteEvent.{SiteEvent}
@@ -32,12 +32,12 @@ unfolding when
 step-when home g past event true x y p q = p refl
 step-when home g past event false x y p q = q refl
 
-pub step-pick : {A : Type 0} (home : Home) (g : Tid) (past : SitePast) (event : SiteEvent) (o : Option A) (x : SiteHappening)
+pub step-given : {A : Type 0} (home : Home) (g : Tid) (past : SitePast) (event : SiteEvent) (o : Option A) (x : SiteHappening)
     (y : A → SiteHappening) → (o ≡ None → Step home g past event x) → ((a : A) → o ≡ Some a → Step home g past event (y a))
-    → Step home g past event (pick o x y)
-unfolding pick
-step-pick home g past event None x y p q = p refl
-step-pick home g past event (Some a) x y p q = q a refl
+    → Step home g past event (given o y x)
+unfolding given
+step-given home g past event None x y p q = p refl
+step-given home g past event (Some a) x y p q = q a refl
 
 -- an answer that says neither that the site stops or starts, nor that it settles
 abbrev pub IsCalm : Answer → Type 0
@@ -140,8 +140,8 @@ pub by-begin : (home : Home) (g : Tid) (past : SitePast) (tid : Tid) → is_down
     → Step home g past (Ev.Begin tid) (of_begin home past tid)
 unfolding of_begin
 by-begin home g past tid up =
-    step-pick home g past (Ev.Begin tid) _ _ _
-    (λ e. step-pick home g past (Ev.Begin tid) _ _ _
+    step-given home g past (Ev.Begin tid) _ _ _
+    (λ e. step-given home g past (Ev.Begin tid) _ _ _
     (λ f. calm home g past (Ev.Begin tid) (Say.Begun tid) [] (Begins tid (next_number home past) ∷ []) up tt tt tt
     (λ nb s. inl (other-line (epoch_start home past) (engine_lines past) g (Begins tid (next_number home past)) nb)))
     (λ a f. quietly home g past (Ev.Begin tid) (Say.Running a) up tt tt))
@@ -172,7 +172,7 @@ pub by-act : (home : Home) (g : Tid) (past : SitePast) (tid : Tid) (act : PlainA
     → Step home g past (Ev.Act tid act) (of_act home past tid act)
 unfolding of_act
 by-act home g past tid act up =
-    step-pick home g past (Ev.Act tid act) _ _ _ (λ e. quietly home g past (Ev.Act tid act) Say.Idle up tt tt)
+    step-given home g past (Ev.Act tid act) _ _ _ (λ e. quietly home g past (Ev.Act tid act) Say.Idle up tt tt)
     (λ run e.
     calm home g past (Ev.Act tid act) (act_answer tid (reply_to home past run act) act) []
     (Acts tid act (reply_to home past run act) ∷ []) up
@@ -217,8 +217,8 @@ pub by-commit : (home : Home) (g : Tid) (past : SitePast) (tid : Tid) → is_dow
     → Step home g past (Ev.Commit tid) (of_commit home past tid)
 unfolding of_commit
 by-commit home g past tid up =
-    step-pick home g past (Ev.Commit tid) _ _ _ (λ e. quietly home g past (Ev.Commit tid) Say.Idle up tt tt)
-    (λ run e. step-pick home g past (Ev.Commit tid) _ _ _ (λ f. by-seals_local home g past tid run up)
+    step-given home g past (Ev.Commit tid) _ _ _ (λ e. quietly home g past (Ev.Commit tid) Say.Idle up tt tt)
+    (λ run e. step-given home g past (Ev.Commit tid) _ _ _ (λ f. by-seals_local home g past tid run up)
     (λ why f. calm home g past (Ev.Commit tid) (refusal_answer why) [] (Refuses tid why ∷ []) up (refusal-calm why) tt tt
     (λ nb s. one-line home g past (Ev.Commit tid) run (Refuses tid why) s e (λ u. cc))))
 
@@ -226,7 +226,7 @@ pub by-abort : (home : Home) (g : Tid) (past : SitePast) (tid : Tid) → is_down
     → Step home g past (Ev.Abort tid) (of_abort home past tid)
 unfolding of_abort
 by-abort home g past tid up =
-    step-pick home g past (Ev.Abort tid) _ _ _ (λ e. quietly home g past (Ev.Abort tid) Say.Idle up tt tt)
+    step-given home g past (Ev.Abort tid) _ _ _ (λ e. quietly home g past (Ev.Abort tid) Say.Idle up tt tt)
     (λ run e. calm home g past (Ev.Abort tid) (Say.Aborted tid) [] (Aborts tid ∷ []) up tt tt tt
     (λ nb s. one-line home g past (Ev.Abort tid) run (Aborts tid) s e (λ u. cc)))
 
@@ -238,8 +238,8 @@ pub by-fate : (home : Home) (g : Tid) (past : SitePast) (tx : Tx) → is_down pa
     → Step home g past (Ev.Fate tx) (of_fate home past tx)
 unfolding of_fate
 by-fate home g past tx up =
-    step-pick home g past (Ev.Fate tx) _ _ _
-    (λ e. step-pick home g past (Ev.Fate tx) _ _ _
+    step-given home g past (Ev.Fate tx) _ _ _
+    (λ e. step-given home g past (Ev.Fate tx) _ _ _
     (λ f. quietly home g past (Ev.Fate tx) (cond (attempts_of past tx == 0) Say.Unbegun Say.Ended) up
     (cond-calm (attempts_of past tx == 0)) tt)
     (λ a f. quietly home g past (Ev.Fate tx) (Say.Running a) up tt tt))
@@ -250,7 +250,7 @@ pub by-drop : (home : Home) (g : Tid) (past : SitePast) (tid : Tid) → is_down 
 unfolding of_drop
 by-drop home g past tid up =
     step-when home g past (Ev.Drop tid) _ _ _ (λ b. quietly home g past (Ev.Drop tid) Say.Idle up tt tt)
-    (λ b. step-pick home g past (Ev.Drop tid) _ _ _ (λ e. quietly home g past (Ev.Drop tid) Say.Idle up tt tt)
+    (λ b. step-given home g past (Ev.Drop tid) _ _ _ (λ e. quietly home g past (Ev.Drop tid) Say.Idle up tt tt)
     (λ run e. calm home g past (Ev.Drop tid) (Say.Dropped tid) [] (Aborts tid ∷ []) up tt tt tt
     (λ nb s. one-line home g past (Ev.Drop tid) run (Aborts tid) s e (λ u. cc))))
 
@@ -258,7 +258,7 @@ pub by-ask : (home : Home) (g : Tid) (past : SitePast) (tid : Tid) → is_down p
     → Step home g past (Ev.Ask tid) (of_ask home past tid)
 unfolding of_ask
 by-ask home g past tid up =
-    step-pick home g past (Ev.Ask tid) _ _ _ (λ e. quietly home g past (Ev.Ask tid) Say.Idle up tt tt)
+    step-given home g past (Ev.Ask tid) _ _ _ (λ e. quietly home g past (Ev.Ask tid) Say.Idle up tt tt)
     (λ held e. calm home g past (Ev.Ask tid) (Say.Asks tid) (From.Inquiry tid ∷ []) [] up tt tt
     ((λ q. of_same (λ u. (h : Held) × (doubt_of (records home past) u ≡ Some h)) tid g (held, e) q), tt)
     (λ nb s. no-lines home g past (Ev.Ask tid)))

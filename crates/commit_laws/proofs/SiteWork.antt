@@ -26,7 +26,7 @@ use Rattle.fed_rules.specs.SiteRecords.{Home, Held, doubt_of}
 use Rattle.commit_laws.specs.Records.{IsPrepared}
 use Rattle.commit_laws.proofs.SiteFacts.{IsSealing, Shut, Step}
 use Rattle.commit_laws.proofs.SiteShut.{other-line, other-lines, this-line, given-up, sealed-now, shut-on}
-use Rattle.commit_laws.proofs.SiteRules.{step-when, step-pick, IsNoDecision, Touches, no-lines, one-line, calm, acts-stay, takes-stay}
+use Rattle.commit_laws.proofs.SiteRules.{step-when, step-given, IsNoDecision, Touches, no-lines, one-line, calm, acts-stay, takes-stay}
 use Rattle.order_laws.proofs.Alike.{of_same}
 
 -- an operation's answer
@@ -106,7 +106,7 @@ pub by-work : (home : Home) (g : Tid) (past : SitePast) (tid : Tid) (e n : ℕ) 
 unfolding of_work
 by-work home g past tid e n act up =
     step-when home g past (Ev.Give (To.Work tid e n act)) _ _ _ (λ b. by-unknown home g past (To.Work tid e n act) tid n up tt)
-    (λ free. step-pick home g past (Ev.Give (To.Work tid e n act)) _ _ _
+    (λ free. step-given home g past (Ev.Give (To.Work tid e n act)) _ _ _
     (λ none. step-when home g past (Ev.Give (To.Work tid e n act)) _ _ _
     (λ b. by-first_work home g past (To.Work tid e n act) tid n act up tt free)
     (λ b. by-unknown home g past (To.Work tid e n act) tid n up tt))
@@ -126,7 +126,7 @@ pub by-take : (home : Home) (g : Tid) (past : SitePast) (tid : Tid) (e n : ℕ) 
 unfolding of_take
 by-take home g past tid e n up =
     step-when home g past (Ev.Give (To.Take tid e n)) _ _ _ (λ b. by-unknown home g past (To.Take tid e n) tid n up tt)
-    (λ free. step-pick home g past (Ev.Give (To.Take tid e n)) _ _ _ (λ none. by-unknown home g past (To.Take tid e n) tid n up tt)
+    (λ free. step-given home g past (Ev.Give (To.Take tid e n)) _ _ _ (λ none. by-unknown home g past (To.Take tid e n) tid n up tt)
     (λ run alive. by-take_live home g past (To.Take tid e n) tid e n run up tt alive))
 
 -- a Prepared record that is in doubt stands among the records
@@ -231,7 +231,7 @@ by-seals_global : (home : Home) (g : Tid) (past : SitePast) (tid : Tid) (e n : �
     → Step home g past (Ev.Give (To.Prepare tid e n)) (seals_global home past tid e n run ticket)
 unfolding seals_global
 by-seals_global home g past tid e n run ticket up free alive here =
-    step-pick home g past (Ev.Give (To.Prepare tid e n)) _ _ _ (λ f. by-votes_yes home g past tid e n run ticket up free alive here)
+    step-given home g past (Ev.Give (To.Prepare tid e n)) _ _ _ (λ f. by-votes_yes home g past tid e n run ticket up free alive here)
     (λ why f. by-votes_no home g past tid e n (Some why) (Refuses tid why ∷ []) up
     (λ s. one-line home g past (Ev.Give (To.Prepare tid e n)) run (Refuses tid why) s alive (λ u. cc)))
 
@@ -241,7 +241,7 @@ by-prepare_live : (home : Home) (g : Tid) (past : SitePast) (tid : Tid) (e n : �
 unfolding prepare_live
 by-prepare_live home g past tid e n run up free alive =
     step-when home g past (Ev.Give (To.Prepare tid e n)) _ _ _
-    (λ b. step-pick home g past (Ev.Give (To.Prepare tid e n)) _ _ _ (λ f. by-no_again home g past tid e n up)
+    (λ b. step-given home g past (Ev.Give (To.Prepare tid e n)) _ _ _ (λ f. by-no_again home g past tid e n up)
     (λ ticket f. by-seals_global home g past tid e n run ticket up free alive
     (eqb-true e (epoch home past) (and_parts (e == epoch home past) (n == done run) b).0)))
     (λ b. by-no_again home g past tid e n up)
@@ -250,8 +250,8 @@ pub by-prepare : (home : Home) (g : Tid) (past : SitePast) (tid : Tid) (e n : �
     → Step home g past (Ev.Give (To.Prepare tid e n)) (of_prepare home past tid e n)
 unfolding of_prepare
 by-prepare home g past tid e n up =
-    step-pick home g past (Ev.Give (To.Prepare tid e n)) _ _ _
-    (λ free. step-pick home g past (Ev.Give (To.Prepare tid e n)) _ _ _ (λ f. by-no_again home g past tid e n up)
+    step-given home g past (Ev.Give (To.Prepare tid e n)) _ _ _
+    (λ free. step-given home g past (Ev.Give (To.Prepare tid e n)) _ _ _ (λ f. by-no_again home g past tid e n up)
     (λ run alive. by-prepare_live home g past tid e n run up free alive))
     (λ held doubt. step-when home g past (Ev.Give (To.Prepare tid e n)) _ _ _ (λ b. by-votes_again home g past tid e n held up doubt)
     (λ b. by-no_again home g past tid e n up))

@@ -6,7 +6,7 @@ use Rattle.mdb_base.specs.declared.names.Tid.{Tid}
 use Rattle.mdb_base.specs.declared.replies.Reply.{Reply}
 use Rattle.mdb_base.specs.declared.replies.Reply.TheVariants as Reply_is
 use Rattle.mdb_base.specs.declared.replies.Why.TheVariants as Because
-use Rattle.mdb_base.specs.Words.{pick, some_of, when}
+use Rattle.mdb_base.specs.Words.{given, some_of, when}
 use Rattle.order_laws.specs.Search.{cycle_through}
 use Rattle.order_laws.specs.Tickets.{edge_between}
 use Rattle.presumptions.specs.declared.Participant.{Participant}
@@ -48,10 +48,10 @@ unfolding when
 shape_when true x y p q = p
 shape_when false x y p q = q
 
-shape_pick : {A : Type 0} (o : Option A) (x : CoordHappening) (f : A → CoordHappening) → HasShape x → ((a : A) → HasShape (f a)) → HasShape (pick o x f)
-unfolding pick
-shape_pick None x f p q = p
-shape_pick (Some a) x f p q = q a
+shape_given : {A : Type 0} (o : Option A) (x : CoordHappening) (f : A → CoordHappening) → HasShape x → ((a : A) → HasShape (f a)) → HasShape (given o f x)
+unfolding given
+shape_given None x f p q = p
+shape_given (Some a) x f p q = q a
 
 shape_dues : (protocols : List Participant) (past : CoordPast) (event : CoordEvent) (tid : Tid) (answer : Answer) (dues : List Due)
     → HasShape (sends_dues protocols past event tid answer dues)
@@ -87,7 +87,7 @@ shape_yes protocols past event tid =
     let now : CoordPast = quiet event Say.Voted ∷ past in
     let tickets = vote_tickets now tid (participants protocols past tid) in
     shape_when (all_voted now tid (participants protocols past tid)) _ _
-    (shape_pick (cycle_through edge_between (record { tid = tid; tickets = tickets }) (commits (records past))) _ _ (shape_commits protocols past event tid tickets)
+    (shape_given (cycle_through edge_between (record { tid = tid; tickets = tickets }) (commits (records past))) _ _ (shape_commits protocols past event tid tickets)
     (λ edges. shape_aborts protocols past event tid (For.Cycle edges))) (shape_quiet _ _)
 
 shape_vote : (protocols : List Participant) (past : CoordPast) (site : SiteId) (tid : Tid) (vote : Option ℕ) → HasShape (vote_counted protocols past site tid vote)
@@ -136,12 +136,12 @@ back_shape protocols past = record { shape = by_torn (is_torn coord_frame (disk 
 pub answered_shape : (protocols : List Participant) (policy : Policy) (past : CoordPast) (event : CoordEvent) → HasShape (answered protocols policy past event)
 unfolding answered of_go of_again of_late of_fate of_check
 answered_shape protocols policy past (Ev.Go tid steps) =
-    shape_pick (committed_of (records past) tid.tx) _ _ (shape_pick (undecided_of past tid.tx) _ _ (record { shape = Idle refl }) (λ running. shape_quiet _ _)) (λ committed. shape_quiet _ _)
+    shape_given (committed_of (records past) tid.tx) _ _ (shape_given (undecided_of past tid.tx) _ _ (record { shape = Idle refl }) (λ running. shape_quiet _ _)) (λ committed. shape_quiet _ _)
 answered_shape protocols policy past (Ev.Take site message) = shape_take protocols policy past site message
 answered_shape protocols policy past (Ev.Again tid) = shape_again protocols policy past tid (standing protocols past tid)
 answered_shape protocols policy past (Ev.Late tid) = shape_when (is_open past tid) _ _ (shape_aborts protocols past _ tid _) (shape_quiet _ _)
 answered_shape protocols policy past (Ev.Fate tx) =
-    shape_pick (committed_of (records past) tx) _ _ (shape_pick (undecided_of past tx) _ _ (shape_quiet _ _) (λ running. shape_quiet _ _)) (λ committed. shape_quiet _ _)
+    shape_given (committed_of (records past) tx) _ _ (shape_given (undecided_of past tx) _ _ (shape_quiet _ _) (λ running. shape_quiet _ _)) (λ committed. shape_quiet _ _)
 answered_shape protocols policy past (Ev.Halt cut) = shape_quiet _ _
 answered_shape protocols policy past (Ev.Trip calls cut) = shape_quiet _ _
 answered_shape protocols policy past Ev.Back = back_shape protocols past

@@ -31,7 +31,7 @@ use Rattle.fed_rules.specs.CoordPast.{CoordHappening, CoordPast, records, Standi
 use Rattle.fed_rules.specs.CoordRecords.{class_of, has_initiation, named, committed_of}
 use Rattle.coord_laws.proofs.Facts.{IsOpen, Stands, Same, Starts, IsPreparing, IsTelling, Known, Presumed, Tells, Counted, Goes}
 use Rattle.rules_laws.proofs.Sending.{IsSending}
-use Rattle.coord_laws.proofs.Rules.{goes_when, goes_pick, IsCalm, Sending, sending_answer, calm_committed, standing_on, acked_on, IsNoAck, calm_standing, calm_acked, silently, no_ack}
+use Rattle.coord_laws.proofs.Rules.{goes_when, goes_given, IsCalm, Sending, sending_answer, calm_committed, standing_on, acked_on, IsNoAck, calm_standing, calm_acked, silently, no_ack}
 use Rattle.order_laws.proofs.Alike.{of_same}
 
 pub each_found : {A B : Type 0} (P : B → Type 0) (look : A → Option B) → ((x : A) (b : B) → look x ≡ Some b → P b) → (xs : List A)
@@ -142,8 +142,8 @@ pub by_go : (protocols : List Participant) (g : Tid) (past : CoordPast) (t : Tid
     → Goes protocols g past (Ev.Go t steps) (of_go protocols past t steps)
 unfolding of_go
 by_go protocols g past t steps =
-    goes_pick protocols g past (Ev.Go t steps) (committed_of (records past) t.tx) _ _
-    (λ e. goes_pick protocols g past (Ev.Go t steps) (undecided_of past t.tx) _ _ (λ f. begun)
+    goes_given protocols g past (Ev.Go t steps) (committed_of (records past) t.tx) _ _
+    (λ e. goes_given protocols g past (Ev.Go t steps) (undecided_of past t.tx) _ _ (λ f. begun)
     (λ r f. silently protocols g past (Ev.Go t steps) (Say.Running r) tt tt tt))
     (λ c e. silently protocols g past (Ev.Go t steps) (Say.Committed c) tt tt tt)
   where
@@ -350,8 +350,8 @@ pub by_fate : (protocols : List Participant) (g : Tid) (past : CoordPast) (tx : 
     → Goes protocols g past (Ev.Fate tx) (of_fate past tx)
 unfolding of_fate
 by_fate protocols g past tx =
-    goes_pick protocols g past (Ev.Fate tx) (committed_of (records past) tx) _ _
-    (λ e. goes_pick protocols g past (Ev.Fate tx) (undecided_of past tx) _ _
+    goes_given protocols g past (Ev.Fate tx) (committed_of (records past) tx) _ _
+    (λ e. goes_given protocols g past (Ev.Fate tx) (undecided_of past tx) _ _
     (λ f. silently protocols g past (Ev.Fate tx) (cond (attempts_of past tx == 0) Say.Unbegun Say.Ended)
     (unbegun_calm (attempts_of past tx == 0)) tt tt)
     (λ r f. silently protocols g past (Ev.Fate tx) (Say.Running r) tt tt tt))

@@ -35,7 +35,7 @@ use Rattle.fed_rules.specs.Policies.{Policy}
 use Rattle.rules_laws.proofs.Disks.{appended}
 use Rattle.coord_laws.proofs.Facts.{IsOpen, IsCommitting, Stands, Same, Decides, IsTelling, Now, Tells, Counted, Goes}
 use Rattle.rules_laws.proofs.Sending.{some_sending}
-use Rattle.coord_laws.proofs.Rules.{goes_when, goes_pick, open_undecided, acked_on, silently, ignored}
+use Rattle.coord_laws.proofs.Rules.{goes_when, goes_given, open_undecided, acked_on, silently, ignored}
 use Rattle.coord_laws.proofs.Dues.{IsOwed, news_owed, by_dues}
 use Rattle.coord_laws.proofs.Ends.{acked_off, decided_standing, other_standing, by_aborts}
 use Rattle.order_laws.proofs.Alike.{of_same}
@@ -155,7 +155,7 @@ by_last_vote : (protocols : List Participant) (g : Tid) (past : CoordPast) (site
     (last_vote protocols past (Ev.Take site (From.Vote t (Some ticket))) t tickets)
 unfolding last_vote aborts
 by_last_vote protocols g past site t ticket tickets undecided all names places =
-    goes_pick protocols g past (Ev.Take site (From.Vote t (Some ticket)))
+    goes_given protocols g past (Ev.Take site (From.Vote t (Some ticket)))
     (cycle_through edge_between (record { tid = t; tickets = tickets }) (commits (records past))) _ _
     (λ e. by_commits_it protocols g past site t ticket tickets undecided all names places)
     (λ edges e. by_aborts protocols g past (Ev.Take site (From.Vote t (Some ticket))) t (For.Cycle edges) undecided (λ u. refl) tt

@@ -7,7 +7,7 @@ use Rattle.mdb_base.specs.declared.names.Tid.{Tid}
 use Rattle.mdb_base.specs.declared.replies.Reply.{Reply}
 use Rattle.mdb_base.specs.declared.replies.Reply.TheVariants as Reply_is
 use Rattle.mdb_base.specs.declared.replies.Why.TheVariants as Because
-use Rattle.mdb_base.specs.Words.{Each, when, pick}
+use Rattle.mdb_base.specs.Words.{Each, when, given}
 use Rattle.presumptions.specs.declared.Participant.{Participant}
 use Rattle.order_laws.specs.Search.{cycle_through}
 use Rattle.order_laws.specs.Tickets.{Ticketed, edge_between}
@@ -177,7 +177,7 @@ unfolding when
 made_when protocols past event true a b p q = p refl
 made_when protocols past event false a b p q = q refl
 
-pub made_pick : {A : Type 0} (protocols : List Participant) (past : CoordPast) (event : CoordEvent) (o : Option A) (none : CoordHappening) (some : A → CoordHappening) → (o ≡ None → IsMade protocols past event none) → ((x : A) → o ≡ Some x → IsMade protocols past event (some x)) → IsMade protocols past event (pick o none some)
-unfolding pick
-made_pick protocols past event None none some p q = p refl
-made_pick protocols past event (Some x) none some p q = q x refl
+pub made_given : {A : Type 0} (protocols : List Participant) (past : CoordPast) (event : CoordEvent) (o : Option A) (none : CoordHappening) (some : A → CoordHappening) → (o ≡ None → IsMade protocols past event none) → ((x : A) → o ≡ Some x → IsMade protocols past event (some x)) → IsMade protocols past event (given o some none)
+unfolding given
+made_given protocols past event None none some p q = p refl
+made_given protocols past event (Some x) none some p q = q x refl

@@ -38,7 +38,7 @@ use Rattle.fed_rules.specs.Policies.{Policy}
 use Rattle.fed_rules.specs.Disk.{Call, Append, Sync, CutBack, TrimFront, Stops, is_torn}
 use Rattle.fed_rules.specs.Happenings.{Trip, quiet, is_down, stopped, tripped}
 use Rattle.fed_rules.specs.Site_of.{due_site}
-use Rattle.coord_laws.proofs.Made.{CommitsNobody, IsAccepted, IsLastVote, Writes, IsAsked, Counts, is_refusal, Decides, Begins, IsFirst, IsMade, uncounted_counts, uncounted_decides, quiet_plain, quiet_uncounted, made_when, made_pick}
+use Rattle.coord_laws.proofs.Made.{CommitsNobody, IsAccepted, IsLastVote, Writes, IsAsked, Counts, is_refusal, Decides, Begins, IsFirst, IsMade, uncounted_counts, uncounted_decides, quiet_plain, quiet_uncounted, made_when, made_given}
 use Rattle.order_laws.proofs.Joined.{each_cut}
 
 pub due_same : (d due : Due) → Some d ≡ Some due → due_site due ≡ due_site d
@@ -161,8 +161,8 @@ commits_made protocols past event tid tickets none last d k =
 go_made : (protocols : List Participant) (past : CoordPast) (tid : Tid) (steps : List Step) → IsMade protocols past (Ev.Go tid steps) (of_go protocols past tid steps)
 unfolding of_go
 go_made protocols past tid steps =
-    made_pick protocols past _ _ _ _
-    (λ e. made_pick protocols past _ _ _ _
+    made_given protocols past _ _ _ _
+    (λ e. made_given protocols past _ _ _ _
     (λ f. record { heard = refl; accepted = tt; writes = tt; sends = sends_due (quiet (Ev.Go tid steps) (Say.Begun tid) ∷ past) tid _ (all_due protocols (quiet (Ev.Go tid steps) (Say.Begun tid) ∷ past) tid); counted = tt; decided = tt; begun = (steps, refl); first = (e, f); commits_by = λ e. tt })
     (λ running f. quiet_plain protocols past _ _ tt tt tt))
     (λ committed e. quiet_plain protocols past _ _ tt tt tt)
@@ -206,7 +206,7 @@ last_made : (protocols : List Participant) (past : CoordPast) (site : SiteId) (t
     → IsMade protocols past (Ev.Take site (From.Vote tid (Some ticket))) (last_vote protocols past (Ev.Take site (From.Vote tid (Some ticket))) tid tickets)
 unfolding last_vote
 last_made protocols past site tid ticket tickets c last =
-    made_pick protocols past _ _ _ _ (λ e. commits_made protocols past _ tid tickets e last (λ answer d. tt) (λ answer h. c))
+    made_given protocols past _ _ _ _ (λ e. commits_made protocols past _ tid tickets e last (λ answer d. tt) (λ answer h. c))
     (λ edges e. aborts_made protocols past _ tid _ (λ answer d. tt) (λ answer h. c))
 
 vote_made : (protocols : List Participant) (past : CoordPast) (site : SiteId) (tid : Tid) (vote : Option ℕ) → IsMade protocols past (Ev.Take site (From.Vote tid vote)) (of_vote protocols past site tid vote)
@@ -277,8 +277,8 @@ late_made protocols past tid =
 fate_made : (protocols : List Participant) (past : CoordPast) (tx : Tx) → IsMade protocols past (Ev.Fate tx) (of_fate past tx)
 unfolding of_fate
 fate_made protocols past tx =
-    made_pick protocols past _ _ _ _
-    (λ e. made_pick protocols past _ _ _ _ (λ f. quiet_plain protocols past _ _ tt (by_test _) (by_first _))
+    made_given protocols past _ _ _ _
+    (λ e. made_given protocols past _ _ _ _ (λ f. quiet_plain protocols past _ _ tt (by_test _) (by_first _))
     (λ running f. quiet_plain protocols past _ _ tt tt tt))
     (λ committed e. quiet_plain protocols past _ _ tt tt tt)
   where

@@ -3,7 +3,7 @@ use Rattle.std.proofs.Common.{◌≡◌, inl, Bool, true, false, cond, ◌&&◌,
 use Rattle.std.proofs.lemmas.Bool.{and_right}
 use Rattle.mdb_base.specs.declared.names.SiteId.{SiteId}
 use Rattle.mdb_base.specs.declared.names.Tid.{Tid}
-use Rattle.mdb_base.specs.Words.{when, pick}
+use Rattle.mdb_base.specs.Words.{when, given}
 use Rattle.mdb_base.proofs.BoolLaws.{cond_same}
 use Rattle.presumptions.specs.declared.Decision.{Decision}
 use Rattle.presumptions.specs.declared.Participant.{Participant}
@@ -25,12 +25,12 @@ unfolding when
 goes_when protocols g past event true x y p q = p refl
 goes_when protocols g past event false x y p q = q refl
 
-pub goes_pick : {A : Type 0} (protocols : List Participant) (g : Tid) (past : CoordPast) (event : CoordEvent) (o : Option A)
+pub goes_given : {A : Type 0} (protocols : List Participant) (g : Tid) (past : CoordPast) (event : CoordEvent) (o : Option A)
     (x : CoordHappening) (y : A → CoordHappening) → (o ≡ None → Goes protocols g past event x)
-    → ((a : A) → o ≡ Some a → Goes protocols g past event (y a)) → Goes protocols g past event (pick o x y)
-unfolding pick
-goes_pick protocols g past event None x y p q = p refl
-goes_pick protocols g past event (Some a) x y p q = q a refl
+    → ((a : A) → o ≡ Some a → Goes protocols g past event (y a)) → Goes protocols g past event (given o y x)
+unfolding given
+goes_given protocols g past event None x y p q = p refl
+goes_given protocols g past event (Some a) x y p q = q a refl
 
 -- an answer that leaves the standing of every attempt as it was
 abbrev pub IsCalm : Answer → Type 0

@@ -7,7 +7,7 @@ use Rattle.mdb_base.specs.declared.names.SiteId.{SiteId}
 use Rattle.mdb_base.specs.declared.names.Tid.{Tid}
 use Rattle.mdb_base.specs.declared.names.Tx.{Tx}
 use Rattle.mdb_base.specs.Names.{same_site, same_tid, same_tx}
-use Rattle.mdb_base.specs.Words.{Each, first_where, found, how_many, pick, some_of, those}
+use Rattle.mdb_base.specs.Words.{Each, first_where, found, given, how_many, some_of, those}
 use Rattle.mdb_base.proofs.ListLaws.{append_each}
 use Rattle.mdb_base.proofs.NameLaws.{same_tid-equal, same_tid-refl, same_tid-sym, same_tx-equal}
 use Rattle.mdb_base.proofs.JoinLaws.{reverse_more}
@@ -253,19 +253,19 @@ module _ (terms : Terms) (past : CoordPast) (tid : Tid) (steps : List Step) (sou
 
 pub go_begins : (terms : Terms) (past : CoordPast) (tid : Tid) (steps : List Step) → committed_of (records past) tid.tx ≡ None → undecided_of past tid.tx ≡ None
     → answer_of terms past (Ev.Go tid steps) ≡ begun_line tid steps (map (send_due tid) (all_outstanding terms.protocols (begun_line tid steps [] ∷ past) tid))
-unfolding answered of_go pick
+unfolding answered of_go given
 go_begins terms past tid steps c u =
-    ap₂ (λ (o p : Option Tid). pick o (pick p (begun_line tid steps (map (send_due tid) (all_outstanding terms.protocols (begun_line tid steps [] ∷ past) tid))) (λ running. quiet (Ev.Go tid steps) (Say.Running running))) (λ committed. quiet (Ev.Go tid steps) (Say.Committed committed))) c u
+    ap₂ (λ (o p : Option Tid). given o (λ committed. quiet (Ev.Go tid steps) (Say.Committed committed)) (given p (λ running. quiet (Ev.Go tid steps) (Say.Running running)) (begun_line tid steps (map (send_due tid) (all_outstanding terms.protocols (begun_line tid steps [] ∷ past) tid))))) c u
 
 pub go_committed : (terms : Terms) (past : CoordPast) (tid : Tid) (steps : List Step) (t : Tid) → committed_of (records past) tid.tx ≡ Some t → answer_of terms past (Ev.Go tid steps) ≡ quiet (Ev.Go tid steps) (Say.Committed t)
-unfolding answered of_go pick
+unfolding answered of_go given
 go_committed terms past tid steps t c =
-    ap (λ (o : Option Tid). pick o (pick (undecided_of past tid.tx) (begun_line tid steps (map (send_due tid) (all_outstanding terms.protocols (begun_line tid steps [] ∷ past) tid))) (λ running. quiet (Ev.Go tid steps) (Say.Running running))) (λ committed. quiet (Ev.Go tid steps) (Say.Committed committed))) c
+    ap (λ (o : Option Tid). given o (λ committed. quiet (Ev.Go tid steps) (Say.Committed committed)) (given (undecided_of past tid.tx) (λ running. quiet (Ev.Go tid steps) (Say.Running running)) (begun_line tid steps (map (send_due tid) (all_outstanding terms.protocols (begun_line tid steps [] ∷ past) tid))))) c
 
 pub go_running : (terms : Terms) (past : CoordPast) (tid : Tid) (steps : List Step) (t : Tid) → committed_of (records past) tid.tx ≡ None → undecided_of past tid.tx ≡ Some t → answer_of terms past (Ev.Go tid steps) ≡ quiet (Ev.Go tid steps) (Say.Running t)
-unfolding answered of_go pick
+unfolding answered of_go given
 go_running terms past tid steps t c u =
-    ap₂ (λ (o p : Option Tid). pick o (pick p (begun_line tid steps (map (send_due tid) (all_outstanding terms.protocols (begun_line tid steps [] ∷ past) tid))) (λ running. quiet (Ev.Go tid steps) (Say.Running running))) (λ committed. quiet (Ev.Go tid steps) (Say.Committed committed))) c u
+    ap₂ (λ (o p : Option Tid). given o (λ committed. quiet (Ev.Go tid steps) (Say.Committed committed)) (given p (λ running. quiet (Ev.Go tid steps) (Say.Running running)) (begun_line tid steps (map (send_due tid) (all_outstanding terms.protocols (begun_line tid steps [] ∷ past) tid))))) c u
 
 pub noted_next : (past : CoordPast) (tid : Tid) (tx : Tx) → tid.attempt ≡ attempts_of past tid.tx → cond (same_tx tid.tx tx) (tid.attempt + 1) (attempts_of past tx) ≡ cond (same_tx tid.tx tx) (suc (attempts_of past tx)) (attempts_of past tx)
 noted_next past tid tx next = by_test (same_tx tid.tx tx) refl where

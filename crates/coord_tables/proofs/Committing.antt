@@ -8,7 +8,7 @@ use Rattle.mdb_base.specs.declared.names.Tx.{Tx}
 use Rattle.mdb_base.specs.declared.replies.Edge.{Edge}
 use Rattle.mdb_base.specs.Names.{same_tx}
 use Rattle.mdb_base.specs.Rising.{IsRising}
-use Rattle.mdb_base.specs.Words.{Each, found, map_some, or_else, pick, with_some}
+use Rattle.mdb_base.specs.Words.{Each, found, given, map_some, or_else, with_some}
 use Rattle.mdb_base.proofs.ListLaws.{each_filtered}
 use Rattle.mdb_base.proofs.NameLaws.{same_tid-refl}
 use Rattle.mdb_base.proofs.OptionLaws.{some_parts}
@@ -91,13 +91,13 @@ commits_are protocols past event tid tickets = refl
 
 pub last_commits : (protocols : List Participant) (past : CoordPast) (event : CoordEvent) (tid : Tid) (tickets : List SiteTicket) → cycle_through edge_between (record { tid = tid; tickets = tickets }) (commits (records past)) ≡ None
     → last_vote protocols past event tid tickets ≡ commits_it protocols past event tid tickets
-unfolding last_vote pick
-last_commits protocols past event tid tickets e = ap (λ o. pick o (commits_it protocols past event tid tickets) (λ edges. aborts protocols past event tid (For.Cycle edges))) e
+unfolding last_vote given
+last_commits protocols past event tid tickets e = ap (λ o. given o (λ edges. aborts protocols past event tid (For.Cycle edges)) (commits_it protocols past event tid tickets)) e
 
 last_aborts : (protocols : List Participant) (past : CoordPast) (event : CoordEvent) (tid : Tid) (tickets : List SiteTicket) (edges : List Edge) → cycle_through edge_between (record { tid = tid; tickets = tickets }) (commits (records past)) ≡ Some edges
     → last_vote protocols past event tid tickets ≡ aborts protocols past event tid (For.Cycle edges)
-unfolding last_vote pick
-last_aborts protocols past event tid tickets edges e = ap (λ o. pick o (commits_it protocols past event tid tickets) (λ es. aborts protocols past event tid (For.Cycle es))) e
+unfolding last_vote given
+last_aborts protocols past event tid tickets edges e = ap (λ o. given o (λ es. aborts protocols past event tid (For.Cycle es)) (commits_it protocols past event tid tickets)) e
 
 -- the tickets of the votes behind a line with this answer and event
 abbrev tickets_by : List Participant → CoordPast → Tid → Answer → CoordEvent → List SiteTicket

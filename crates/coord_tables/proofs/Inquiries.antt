@@ -6,7 +6,7 @@ use Rattle.mdb_base.specs.declared.names.SiteId.{SiteId}
 use Rattle.mdb_base.specs.declared.names.Tid.{Tid}
 use Rattle.mdb_base.specs.declared.names.Tx.{Tx}
 use Rattle.mdb_base.specs.Names.{same_tx}
-use Rattle.mdb_base.specs.Words.{first_where, pick, those}
+use Rattle.mdb_base.specs.Words.{first_where, given, those}
 use Rattle.presumptions.specs.declared.Decision.{Decision}
 use Rattle.presumptions.specs.declared.Participant.{Participant}
 use Rattle.presumptions.specs.declared.Protocol.{Protocol}
@@ -59,30 +59,30 @@ running_is tables terms past tx s =
 
 -- how a transaction ended
 pub fate_committed : (past : CoordPast) (tx : Tx) (t : Tid) → committed_of (records past) tx ≡ Some t → of_fate past tx ≡ quiet (Ev.Fate tx) (Say.Committed t)
-unfolding of_fate pick
-fate_committed past tx t e = ap (λ o. pick o (pick (undecided_of past tx) (quiet (Ev.Fate tx) (cond (attempts_of past tx == 0) Say.Unbegun Say.Ended)) (λ running. quiet (Ev.Fate tx) (Say.Running running))) (λ committed. quiet (Ev.Fate tx) (Say.Committed committed))) e
+unfolding of_fate given
+fate_committed past tx t e = ap (λ o. given o (λ committed. quiet (Ev.Fate tx) (Say.Committed committed)) (given (undecided_of past tx) (λ running. quiet (Ev.Fate tx) (Say.Running running)) (quiet (Ev.Fate tx) (cond (attempts_of past tx == 0) Say.Unbegun Say.Ended)))) e
 
 fate_open : (past : CoordPast) (tx : Tx) (o : Option Tid) → committed_of (records past) tx ≡ None → undecided_of past tx ≡ o
-    → of_fate past tx ≡ pick o (quiet (Ev.Fate tx) (cond (attempts_of past tx == 0) Say.Unbegun Say.Ended)) (λ running. quiet (Ev.Fate tx) (Say.Running running))
-unfolding of_fate pick
+    → of_fate past tx ≡ given o (λ running. quiet (Ev.Fate tx) (Say.Running running)) (quiet (Ev.Fate tx) (cond (attempts_of past tx == 0) Say.Unbegun Say.Ended))
+unfolding of_fate given
 fate_open past tx o e u =
-    ap (λ c. pick c (pick (undecided_of past tx) (quiet (Ev.Fate tx) (cond (attempts_of past tx == 0) Say.Unbegun Say.Ended)) (λ running. quiet (Ev.Fate tx) (Say.Running running))) (λ committed. quiet (Ev.Fate tx) (Say.Committed committed))) e
-    ∙ ap (λ u. pick u (quiet (Ev.Fate tx) (cond (attempts_of past tx == 0) Say.Unbegun Say.Ended)) (λ running. quiet (Ev.Fate tx) (Say.Running running))) u
+    ap (λ c. given c (λ committed. quiet (Ev.Fate tx) (Say.Committed committed)) (given (undecided_of past tx) (λ running. quiet (Ev.Fate tx) (Say.Running running)) (quiet (Ev.Fate tx) (cond (attempts_of past tx == 0) Say.Unbegun Say.Ended)))) e
+    ∙ ap (λ u. given u (λ running. quiet (Ev.Fate tx) (Say.Running running)) (quiet (Ev.Fate tx) (cond (attempts_of past tx == 0) Say.Unbegun Say.Ended))) u
 
 pub fate_running : (past : CoordPast) (tx : Tx) (t : Tid) → committed_of (records past) tx ≡ None → undecided_of past tx ≡ Some t → of_fate past tx ≡ quiet (Ev.Fate tx) (Say.Running t)
-unfolding pick
+unfolding given
 fate_running past tx t e u = fate_open past tx (Some t) e u
 
 pub fate_ended : (past : CoordPast) (tx : Tx) → committed_of (records past) tx ≡ None → undecided_of past tx ≡ None → of_fate past tx ≡ quiet (Ev.Fate tx) (cond (attempts_of past tx == 0) Say.Unbegun Say.Ended)
-unfolding pick
+unfolding given
 fate_ended past tx e u = fate_open past tx None e u
 
 abbrev fate_by : Tx → Option Tid → Option Tid → Bool → CoordHappening
-fate_by tx c o b = pick c (pick o (quiet (Ev.Fate tx) (cond b Say.Unbegun Say.Ended)) (λ running. quiet (Ev.Fate tx) (Say.Running running))) (λ committed. quiet (Ev.Fate tx) (Say.Committed committed))
+fate_by tx c o b = given c (λ committed. quiet (Ev.Fate tx) (Say.Committed committed)) (given o (λ running. quiet (Ev.Fate tx) (Say.Running running)) (quiet (Ev.Fate tx) (cond b Say.Unbegun Say.Ended)))
 
 -- and nothing changes by it
 pub fate_calm : (past : CoordPast) (tx : Tx) → IsCalm (of_fate past tx) × ((of_fate past tx).event ≡ Ev.Fate tx)
-unfolding of_fate pick
+unfolding of_fate given
 fate_calm past tx = by_ways (committed_of (records past) tx) (undecided_of past tx) (attempts_of past tx == 0) where
   by_ways : (c o : Option Tid) (b : Bool) → IsCalm (fate_by tx c o b) × ((fate_by tx c o b).event ≡ Ev.Fate tx)
   by_ways (Some t) o b = (quiet_calm (Ev.Fate tx) (Say.Committed t) tt tt, refl)

@@ -5,7 +5,7 @@ use Rattle.mdb_base.specs.declared.acts.Step.{Step}
 use Rattle.mdb_base.specs.declared.names.Tid.{Tid}
 use Rattle.mdb_base.specs.declared.names.Tx.{Tx}
 use Rattle.mdb_base.specs.Names.{same_tx}
-use Rattle.mdb_base.specs.Words.{how_many, pick, when, with_some}
+use Rattle.mdb_base.specs.Words.{given, how_many, when, with_some}
 use Rattle.mdb_base.proofs.NameLaws.{same_tx-equal}
 use Rattle.fed_rules.specs.declared.answers.Answer.{Answer}
 use Rattle.fed_rules.specs.declared.answers.Answer.TheVariants as Say
@@ -37,20 +37,20 @@ IsShort x = IsShortAnswer x.answer
 abbrev GoesWhere : Tid → CoordHappening → Type 0
 GoesWhere tid x = unless_begun x.answer ≡ Say.Spent → x.answer ≡ Say.Begun tid
 
-goes_pick : {A : Type 0} (tid : Tid) (o : Option A) (none : CoordHappening) (some : A → CoordHappening) → GoesWhere tid none → ((x : A) → GoesWhere tid (some x)) → GoesWhere tid (pick o none some)
-unfolding pick
-goes_pick tid None none some n s = n
-goes_pick tid (Some x) none some n s = s x
+goes_given : {A : Type 0} (tid : Tid) (o : Option A) (none : CoordHappening) (some : A → CoordHappening) → GoesWhere tid none → ((x : A) → GoesWhere tid (some x)) → GoesWhere tid (given o some none)
+unfolding given
+goes_given tid None none some n s = n
+goes_given tid (Some x) none some n s = s x
 
 goes_when : (tid : Tid) (b : Bool) (x y : CoordHappening) → GoesWhere tid x → GoesWhere tid y → GoesWhere tid (when b x y)
 unfolding when
 goes_when tid true x y p q = p
 goes_when tid false x y p q = q
 
-by_pick : {A : Type 0} (o : Option A) (none : CoordHappening) (some : A → CoordHappening) → IsShort none → ((x : A) → IsShort (some x)) → IsShort (pick o none some)
-unfolding pick
-by_pick None none some n s = n
-by_pick (Some x) none some n s = s x
+by_given : {A : Type 0} (o : Option A) (none : CoordHappening) (some : A → CoordHappening) → IsShort none → ((x : A) → IsShort (some x)) → IsShort (given o some none)
+unfolding given
+by_given None none some n s = n
+by_given (Some x) none some n s = s x
 
 by_when : (b : Bool) (x y : CoordHappening) → IsShort x → IsShort y → IsShort (when b x y)
 unfolding when
@@ -76,7 +76,7 @@ short_unless answer short = short
 module _ (terms : Terms) (past : CoordPast) where
   short_go : (tid : Tid) (steps : List Step) → IsShort (of_go terms.protocols past tid steps)
   unfolding of_go
-  short_go tid steps = by_pick _ _ _ (by_pick _ _ _ tt (λ running. tt)) (λ committed. tt)
+  short_go tid steps = by_given _ _ _ (by_given _ _ _ tt (λ running. tt)) (λ committed. tt)
 
   short_again_while : (tid : Tid) (s : Standing) → IsShort (again_while terms.protocols terms.policy past tid s)
   unfolding again_while sends_all sends_dues
@@ -95,7 +95,7 @@ module _ (terms : Terms) (past : CoordPast) where
 
   short_of_fate : (tx : Tx) → IsShort (of_fate past tx)
   unfolding of_fate
-  short_of_fate tx = by_pick _ _ _ (by_pick _ _ _ (short_fate (attempts_of past tx == 0)) (λ running. tt)) (λ committed. tt)
+  short_of_fate tx = by_given _ _ _ (by_given _ _ _ (short_fate (attempts_of past tx == 0)) (λ running. tt)) (λ committed. tt)
 
   short_tripped : (o : Option Trip) (x : CoordHappening) → IsShort x → IsShort (tripped coord_frame (disk past) o x)
   unfolding tripped stopped
@@ -125,7 +125,7 @@ module _ (terms : Terms) (past : CoordPast) (tid : Tid) (steps : List Step) wher
   goes_rule : GoesWhere tid (of_go terms.protocols past tid steps)
   unfolding of_go
   goes_rule =
-      goes_pick tid _ _ _ (goes_pick tid _ _ _ (λ e. refl) (λ running. λ e. (let no : Say.Running running ≡ Say.Spent = e in cc))) (λ committed. λ e. (let no : Say.Committed committed ≡ Say.Spent = e in cc))
+      goes_given tid _ _ _ (goes_given tid _ _ _ (λ e. refl) (λ running. λ e. (let no : Say.Running running ≡ Say.Spent = e in cc))) (λ committed. λ e. (let no : Say.Committed committed ≡ Say.Spent = e in cc))
 
   goes_tripped : (o : Option Trip) (x : CoordHappening) → GoesWhere tid x → GoesWhere tid (tripped coord_frame (disk past) o x)
   unfolding tripped stopped
@@ -149,11 +149,11 @@ IsSoftCall terms past call (Submits event) = IsShort (line_of terms past event) 
 IsSoftCall terms past call (Declines answer) = IsShortAnswer answer × ((other : Tx) → begins_tx other answer ≡ false)
 
 module _ (terms : Terms) (past : CoordPast) (call : CoordCall) where
-  soft_pick : {A : Type 0} (o : Option A) (none : Request CoordEvent) (some : A → Request CoordEvent) → IsSoftCall terms past call none → ((x : A) → IsSoftCall terms past call (some x))
-      → IsSoftCall terms past call (pick o none some)
-  unfolding pick
-  soft_pick None none some n s = n
-  soft_pick (Some x) none some n s = s x
+  soft_given : {A : Type 0} (o : Option A) (none : Request CoordEvent) (some : A → Request CoordEvent) → IsSoftCall terms past call none → ((x : A) → IsSoftCall terms past call (some x))
+      → IsSoftCall terms past call (given o some none)
+  unfolding given
+  soft_given None none some n s = n
+  soft_given (Some x) none some n s = s x
 
   soft_when : (b : Bool) (x y : Request CoordEvent) → IsSoftCall terms past call x → IsSoftCall terms past call y → IsSoftCall terms past call (when b x y)
   unfolding when
@@ -166,7 +166,7 @@ module _ (terms : Terms) (past : CoordPast) (call : CoordCall) where
 
   soft_fate : (program : Option (List Step)) (tx : Tx) → IsSoftCall terms past call (fate_request program tx)
   unfolding fate_request
-  soft_fate program tx = soft_pick _ _ _ (tt, λ t. refl) (λ steps. (line_fate terms past tx, tt))
+  soft_fate program tx = soft_given _ _ _ (tt, λ t. refl) (λ steps. (line_fate terms past tx, tt))
 
   soft_next : (tx : Tx) (steps : List Step) → call ≡ Call.Go tx → IsSoftCall terms past call (go_next terms.protocols terms.policy past tx steps (attempts_of past tx))
   unfolding go_next
@@ -174,7 +174,7 @@ module _ (terms : Terms) (past : CoordPast) (call : CoordCall) where
 
   soft_go : (program : Option (List Step)) (tx : Tx) → call ≡ Call.Go tx → IsSoftCall terms past call (go_request terms.protocols terms.policy program past tx)
   unfolding go_request
-  soft_go program tx is = soft_pick _ _ _ (tt, λ t. refl) (λ steps. soft_next tx steps is)
+  soft_go program tx is = soft_given _ _ _ (tt, λ t. refl) (λ steps. soft_next tx steps is)
 
 pub soft_call : (terms : Terms) (programs : OwnPrograms) (past : CoordPast) (call : CoordCall) → IsSoftCall terms past call (request_of_call terms programs past call)
 soft_call terms programs past (Call.Go tx) = soft_go terms past (Call.Go tx) (programs tx) tx refl
@@ -210,11 +210,11 @@ next_go terms past tx steps = refl
 
 pub known_go : (terms : Terms) (program : Option (List Step)) (past : CoordPast) (tx : Tx) → IsSome program → attempts_of past tx ≡ 31
     → (steps : List Step) × (go_request terms.protocols terms.policy program past tx ≡ Submits (Ev.Go (attempt tx 31) steps))
-unfolding go_request pick
+unfolding go_request given
 known_go terms None past tx known count = cc
 known_go terms (Some steps) past tx known count = (steps, ap (λ (n : ℕ). go_next terms.protocols terms.policy past tx steps n) count ∙ next_go terms past tx steps)
 
 -- of a transaction that is no global one
 pub unknown_go : (terms : Terms) (past : CoordPast) (tx : Tx) → go_request terms.protocols terms.policy None past tx ≡ Declines Say.None
-unfolding go_request pick
+unfolding go_request given
 unknown_go terms past tx = refl

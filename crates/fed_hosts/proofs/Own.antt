@@ -10,7 +10,7 @@ use Rattle.mdb_base.specs.declared.replies.Reply.{Reply}
 use Rattle.mdb_base.specs.declared.replies.Reply.TheVariants as Reply_is
 use Rattle.mdb_base.specs.declared.replies.Why.{Why}
 use Rattle.mdb_base.specs.declared.replies.Why.TheVariants as Because
-use Rattle.mdb_base.specs.Words.{pick, when}
+use Rattle.mdb_base.specs.Words.{given, when}
 use Rattle.fed_rules.specs.declared.answers.Answer.{Answer}
 use Rattle.fed_rules.specs.declared.answers.Answer.TheVariants as Say
 use Rattle.fed_rules.specs.declared.events.SiteEvent.{SiteEvent}
@@ -24,7 +24,7 @@ use Rattle.fed_rules.specs.SiteCommands as Rule
 use Rattle.fed_rules.specs.SiteCommands.{answer_to, begin_next, next_step, own_request, request, when_done, with_live}
 use Rattle.fed_rules.specs.SitePast.{SiteHappening, SitePast, attempts_of, begins_tx, disk, trip}
 use Rattle.fed_rules.specs.SiteRecords.{Home, site_frame}
-use Rattle.site_core.proofs.RuleWalks.{by_pick, by_when}
+use Rattle.site_core.proofs.RuleWalks.{by_given, by_when}
 use Rattle.fed_rules.specs.Short.{IsShortAnswer}
 
 -- a line that sends nothing and answers no cycle
@@ -79,23 +79,23 @@ unbegun_unless answer tx = refl
 module _ (home : Home) (past : SitePast) where
   alone_begin : (t : Tid) → IsAlone (of_begin home past t)
   unfolding of_begin
-  alone_begin t = by_pick IsAlone _ _ _ (by_pick IsAlone _ _ _ (refl, tt) (λ r. (refl, tt))) (λ c. (refl, tt))
+  alone_begin t = by_given IsAlone _ _ _ (by_given IsAlone _ _ _ (refl, tt) (λ r. (refl, tt))) (λ c. (refl, tt))
 
   alone_act : (t : Tid) (act : PlainAct) → IsAlone (of_act home past t act)
   unfolding of_act
-  alone_act t act = by_pick IsAlone _ _ _ (refl, tt) (λ run. (refl, short_act t (reply_to home past run act) act))
+  alone_act t act = by_given IsAlone _ _ _ (refl, tt) (λ run. (refl, short_act t (reply_to home past run act) act))
 
   alone_commit : (t : Tid) → IsAlone (of_commit home past t)
   unfolding of_commit Site.seals_local
-  alone_commit t = by_pick IsAlone _ _ _ (refl, tt) (λ run. by_pick IsAlone _ _ _ (refl, tt) (λ why. (refl, short_refusal why)))
+  alone_commit t = by_given IsAlone _ _ _ (refl, tt) (λ run. by_given IsAlone _ _ _ (refl, tt) (λ why. (refl, short_refusal why)))
 
   alone_abort : (t : Tid) → IsAlone (of_abort home past t)
   unfolding of_abort
-  alone_abort t = by_pick IsAlone _ _ _ (refl, tt) (λ run. (refl, tt))
+  alone_abort t = by_given IsAlone _ _ _ (refl, tt) (λ run. (refl, tt))
 
   alone_fate : (tx : Tx) → IsAlone (of_fate home past tx)
   unfolding of_fate
-  alone_fate tx = by_pick IsAlone _ _ _ (by_pick IsAlone _ _ _ (refl, short_fate (attempts_of past tx == 0)) (λ r. (refl, tt))) (λ c. (refl, tt))
+  alone_fate tx = by_given IsAlone _ _ _ (by_given IsAlone _ _ _ (refl, short_fate (attempts_of past tx == 0)) (λ r. (refl, tt))) (λ c. (refl, tt))
 
   alone_tripped : (o : Option Trip) (x : SiteHappening) → IsAlone x → IsAlone (tripped site_frame (disk home past) o x)
   unfolding tripped stopped
@@ -143,7 +143,7 @@ module _ (home : Home) (past : SitePast) where
   begins_rule : (tid : Tid) → BeginsWhere tid (of_begin home past tid)
   unfolding of_begin
   begins_rule tid =
-      by_pick (BeginsWhere tid) _ _ _ (by_pick (BeginsWhere tid) _ _ _ (λ e. refl) (λ running. λ e. (let no : Say.Running running ≡ Say.Spent = e in cc))) (λ committed. λ e. (let no : Say.Committed committed ≡ Say.Spent = e in cc))
+      by_given (BeginsWhere tid) _ _ _ (by_given (BeginsWhere tid) _ _ _ (λ e. refl) (λ running. λ e. (let no : Say.Running running ≡ Say.Spent = e in cc))) (λ committed. λ e. (let no : Say.Committed committed ≡ Say.Spent = e in cc))
 
   -- a begin that would be spent behind the last attempt begins its attempt
   pub begin_begins : (tid : Tid) → BeginsWhere tid (site_line home past (Ev.Begin tid))
@@ -152,11 +152,11 @@ module _ (home : Home) (past : SitePast) where
       by_when (BeginsWhere tid) (is_down past) _ _ (λ e. (let no : Say.Down ≡ Say.Spent = e in cc)) (begins_tripped tid (trip past) (of_begin home past tid) (begins_rule tid))
 
   module _ (verb : Rule.Verb) (tx : Tx) where
-    soft_pick : {A : Type 0} (o : Option A) (none : Request SiteEvent) (some : A → Request SiteEvent) → IsSoft home past verb tx none → ((x : A) → IsSoft home past verb tx (some x))
-        → IsSoft home past verb tx (pick o none some)
-    unfolding pick
-    soft_pick None none some n s = n
-    soft_pick (Some x) none some n s = s x
+    soft_given : {A : Type 0} (o : Option A) (none : Request SiteEvent) (some : A → Request SiteEvent) → IsSoft home past verb tx none → ((x : A) → IsSoft home past verb tx (some x))
+        → IsSoft home past verb tx (given o some none)
+    unfolding given
+    soft_given None none some n s = n
+    soft_given (Some x) none some n s = s x
 
     soft_when : (b : Bool) (x y : Request SiteEvent) → IsSoft home past verb tx x → IsSoft home past verb tx y → IsSoft home past verb tx (when b x y)
     unfolding when
@@ -165,11 +165,11 @@ module _ (home : Home) (past : SitePast) where
 
     soft_live : (next : Tid → Run → Request SiteEvent) → ((tid : Tid) (run : Run) → IsSoft home past verb tx (next tid run)) → IsSoft home past verb tx (with_live home past tx next)
     unfolding with_live
-    soft_live next soft = soft_when _ _ _ (tt, λ t. refl) (soft_pick _ _ _ (tt, λ t. refl) (λ tid. soft_pick _ _ _ (tt, λ t. refl) (λ run. soft tid run)))
+    soft_live next soft = soft_when _ _ _ (tt, λ t. refl) (soft_given _ _ _ (tt, λ t. refl) (λ tid. soft_given _ _ _ (tt, λ t. refl) (λ run. soft tid run)))
 
     soft_step : (steps : List Step) (tid : Tid) (run : Run) → IsSoft home past verb tx (next_step steps tid run)
     unfolding next_step
-    soft_step steps tid run = soft_pick _ _ _ (tt, λ t. refl) (λ step. (line_act tid _, tt))
+    soft_step steps tid run = soft_given _ _ _ (tt, λ t. refl) (λ step. (line_act tid _, tt))
 
     soft_commit : (steps : List Step) (tid : Tid) (run : Run) → IsSoft home past verb tx (when_done steps tid run)
     unfolding when_done
@@ -189,7 +189,7 @@ module _ (home : Home) (past : SitePast) where
 
   pub own_soft : (verb : Rule.Verb) (program : Option (List Step)) (tx : Tx) → IsSoft home past verb tx (own_request verb home program past tx)
   unfolding own_request
-  own_soft verb program tx = soft_pick verb tx program _ _ (tt, λ t. refl) (λ steps. soft_request verb steps tx)
+  own_soft verb program tx = soft_given verb tx program _ _ (tt, λ t. refl) (λ steps. soft_request verb steps tx)
 
 -- the begin behind so many attempts as a host begins
 next_begin : (home : Home) (past : SitePast) (tx : Tx) → answer_to home past (begin_next home past tx 31) ≡ (site_line home past (Ev.Begin (attempt tx 31))).answer
@@ -198,11 +198,11 @@ next_begin home past tx = refl
 
 pub own_begin : (home : Home) (past : SitePast) (program : Option (List Step)) (tx : Tx) → IsSome program → attempts_of past tx ≡ 31
     → answer_to home past (own_request Rule.Begin home program past tx) ≡ (site_line home past (Ev.Begin (attempt tx 31))).answer
-unfolding own_request request pick
+unfolding own_request request given
 own_begin home past None tx own count = cc
 own_begin home past (Some steps) tx own count = ap (λ (n : ℕ). answer_to home past (begin_next home past tx n)) count ∙ next_begin home past tx
 
 -- of a transaction that is none of the site's own
 pub own_none : (home : Home) (past : SitePast) (verb : Rule.Verb) (tx : Tx) → answer_to home past (own_request verb home None past tx) ≡ Say.None
-unfolding own_request pick
+unfolding own_request given
 own_none home past verb tx = refl

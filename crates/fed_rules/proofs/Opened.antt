@@ -1,5 +1,5 @@
 -- One name that opens every rule, so that examples compute.
-use Rattle.mdb_base.specs.Words.{when, pick}
+use Rattle.mdb_base.specs.Words.{when, given}
 use Rattle.fed_rules.specs.Coord
 use Rattle.fed_rules.specs.CoordCommands
 use Rattle.fed_rules.specs.Happenings
@@ -8,7 +8,7 @@ use Rattle.fed_rules.specs.SiteCommands
 use Rattle.fed_rules.specs.Story
 
 unfoldable pub opened : Unit {0}
-unfolding when pick
+unfolding when given
     Coord.sends_dues Coord.sends_news Coord.sends_all Coord.aborts Coord.commits_it Coord.of_go Coord.did_reply Coord.of_did Coord.last_vote Coord.yes_vote
     Coord.vote_counted Coord.of_vote Coord.ack_counts Coord.acked_while Coord.of_ack Coord.asked_while Coord.of_inquiry Coord.of_take
     Coord.again_while Coord.of_again Coord.of_late Coord.of_fate Coord.of_back Coord.of_check Coord.answered Coord.coord_line

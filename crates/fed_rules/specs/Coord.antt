@@ -13,7 +13,7 @@ use Rattle.mdb_base.specs.declared.replies.Reply.{Reply}
 use Rattle.mdb_base.specs.declared.replies.Reply.TheVariants as Reply_is
 use Rattle.mdb_base.specs.declared.replies.Why.TheVariants as Because
 use Rattle.mdb_base.specs.Names.{same_site}
-use Rattle.mdb_base.specs.Words.{when, pick, some_of, each_of, how_many, those, found}
+use Rattle.mdb_base.specs.Words.{when, given, some_of, each_of, how_many, those, found}
 use Rattle.presumptions.specs.declared.Protocol.{Protocol}
 use Rattle.presumptions.specs.declared.Protocol.TheVariants as By
 use Rattle.presumptions.specs.declared.Decision.{Decision}
@@ -175,8 +175,10 @@ commits_it protocols past event tid tickets =
 unfoldable pub of_go : List Participant → CoordPast → Tid → List Step → CoordHappening
 of_go protocols past tid steps =
     let event = Ev.Go tid steps in
-    pick (committed_of (records past) tid.tx)
-    (pick (undecided_of past tid.tx)
+    given (committed_of (records past) tid.tx)
+    (λ committed. quiet event (Say.Committed committed))
+    (given (undecided_of past tid.tx)
+    (λ running. quiet event (Say.Running running))
     (let begun = quiet event (Say.Begun tid) in
     record {
       event = event;
@@ -184,9 +186,7 @@ of_go protocols past tid steps =
       sends = map (send_due tid) (all_outstanding protocols (begun ∷ past) tid);
       calls = [];
       lines = [];
-    })
-    (λ running. quiet event (Say.Running running)))
-    (λ committed. quiet event (Say.Committed committed))
+    }))
 
 -- whether a reply is one that the outstanding operation can have
 abbrev pub fits_act : PlainAct → Reply → Bool
@@ -252,9 +252,9 @@ all_voted past tid members = each_of (λ member. is_some (vote_at past tid membe
 -- at the last yes vote: abort where a cycle of the committed attempts and this one goes through it, else commit
 unfoldable pub last_vote : List Participant → CoordPast → CoordEvent → Tid → List SiteTicket → CoordHappening
 last_vote protocols past event tid tickets =
-    pick (cycle_through edge_between (record { tid = tid; tickets = tickets }) (commits (records past)))
-    (commits_it protocols past event tid tickets)
+    given (cycle_through edge_between (record { tid = tid; tickets = tickets }) (commits (records past)))
     (λ edges. aborts protocols past event tid (For.Cycle edges))
+    (commits_it protocols past event tid tickets)
 
 -- a yes vote that counts: the last one decides
 unfoldable pub yes_vote : List Participant → CoordPast → CoordEvent → Tid → CoordHappening
@@ -365,11 +365,11 @@ of_late protocols past tid =
 -- `fate` of a global transaction
 unfoldable pub of_fate : CoordPast → Tx → CoordHappening
 of_fate past tx =
-    pick (committed_of (records past) tx)
-    (pick (undecided_of past tx)
-    (quiet (Ev.Fate tx) (cond (attempts_of past tx == 0) Say.Unbegun Say.Ended))
-    (λ running. quiet (Ev.Fate tx) (Say.Running running)))
+    given (committed_of (records past) tx)
     (λ committed. quiet (Ev.Fate tx) (Say.Committed committed))
+    (given (undecided_of past tx)
+    (λ running. quiet (Ev.Fate tx) (Say.Running running))
+    (quiet (Ev.Fate tx) (cond (attempts_of past tx == 0) Say.Unbegun Say.Ended)))
 
 -- a restart cuts a torn rest back, and knows the attempts of which something is required
 unfoldable pub of_back : List Participant → CoordPast → CoordHappening

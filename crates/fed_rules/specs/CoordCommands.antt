@@ -4,7 +4,7 @@ use Rattle.mdb_base.specs.declared.acts.Step.{Step}
 use Rattle.mdb_base.specs.declared.names.Tid.{Tid}
 use Rattle.mdb_base.specs.declared.names.Tx.{Tx}
 use Rattle.mdb_base.specs.Names.{same_tid}
-use Rattle.mdb_base.specs.Words.{when, pick, some_of}
+use Rattle.mdb_base.specs.Words.{when, given, some_of}
 use Rattle.presumptions.specs.declared.Participant.{Participant}
 use Rattle.fed_rules.specs.declared.answers.Answer.TheVariants as Say
 use Rattle.fed_rules.specs.declared.events.CoordEvent.{CoordEvent}
@@ -22,11 +22,11 @@ go_next protocols policy past tx steps n =
 -- `go`: the next attempt of a global transaction, where this is its program
 unfoldable pub go_request : List Participant → Policy → Option (List Step) → CoordPast → Tx → Request CoordEvent
 go_request protocols policy program past tx =
-    pick program (Declines Say.None) (λ steps. go_next protocols policy past tx steps (attempts_of past tx))
+    given program (λ steps. go_next protocols policy past tx steps (attempts_of past tx)) (Declines Say.None)
 
 -- `fate` of a global transaction
 unfoldable pub fate_request : Option (List Step) → Tx → Request CoordEvent
-fate_request program tx = pick program (Declines Say.None) (λ steps. Submits (Ev.Fate tx))
+fate_request program tx = given program (λ steps. Submits (Ev.Fate tx)) (Declines Say.None)
 
 -- `again` and `late`: an event about an attempt that was begun
 unfoldable pub attempt_request : CoordPast → Tid → CoordEvent → Request CoordEvent

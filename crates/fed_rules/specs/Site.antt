@@ -9,7 +9,7 @@ use Rattle.mdb_base.specs.declared.replies.Reply.{Reply}
 use Rattle.mdb_base.specs.declared.replies.Reply.TheVariants as Reply_is
 use Rattle.mdb_base.specs.declared.replies.Why.{Why}
 use Rattle.mdb_base.specs.declared.replies.Why.TheVariants as Because
-use Rattle.mdb_base.specs.Words.{when, pick}
+use Rattle.mdb_base.specs.Words.{when, given}
 use Rattle.presumptions.specs.declared.Decision.{Decision}
 use Rattle.presumptions.specs.declared.Decision.TheVariants as Decided
 use Rattle.presumptions.specs.Table.{forces, acks}
@@ -42,11 +42,11 @@ next_number home past = counter (epoch_start home past) (engine_lines past) + 1
 -- `begin`: committed before, running, or begun with the next number
 unfoldable pub of_begin : Home → SitePast → Tid → SiteHappening
 of_begin home past tid =
-    pick (local_of (records home past) tid.tx)
-    (pick (live_of_tx home past tid.tx)
-    (with_lines (Ev.Begin tid) (Say.Begun tid) (Begins tid (next_number home past) ∷ []))
-    (λ running. quiet (Ev.Begin tid) (Say.Running running)))
+    given (local_of (records home past) tid.tx)
     (λ committed. quiet (Ev.Begin tid) (Say.Committed committed))
+    (given (live_of_tx home past tid.tx)
+    (λ running. quiet (Ev.Begin tid) (Say.Running running))
+    (with_lines (Ev.Begin tid) (Say.Begun tid) (Begins tid (next_number home past) ∷ [])))
 
 -- the answer to an access of a local transaction
 abbrev pub act_answer : Tid → Reply → PlainAct → Answer
@@ -64,8 +64,9 @@ reply_to home past run act = access_reply (epoch_start home past) (engine_lines 
 -- `step`: the engine's reply
 unfoldable pub of_act : Home → SitePast → Tid → PlainAct → SiteHappening
 of_act home past tid act =
-    pick (live home past tid) (quiet (Ev.Act tid act) Say.Idle)
+    given (live home past tid)
     (λ run. with_lines (Ev.Act tid act) (act_answer tid (reply_to home past run act) act) (Acts tid act (reply_to home past run act) ∷ []))
+    (quiet (Ev.Act tid act) Say.Idle)
 
 -- what refuses the sealing of a live run
 abbrev pub stop_of : Home → SitePast → Run → Option Why
@@ -93,24 +94,27 @@ seals_local home past tid run =
 -- `commit`: refused, or sealed and committed
 unfoldable pub of_commit : Home → SitePast → Tid → SiteHappening
 of_commit home past tid =
-    pick (live home past tid) (quiet (Ev.Commit tid) Say.Idle)
-    (λ run. pick (stop_of home past run) (seals_local home past tid run)
-    (λ why. with_lines (Ev.Commit tid) (refusal_answer why) (Refuses tid why ∷ [])))
+    given (live home past tid)
+    (λ run. given (stop_of home past run)
+    (λ why. with_lines (Ev.Commit tid) (refusal_answer why) (Refuses tid why ∷ []))
+    (seals_local home past tid run))
+    (quiet (Ev.Commit tid) Say.Idle)
 
 -- `abort`
 unfoldable pub of_abort : Home → SitePast → Tid → SiteHappening
 of_abort home past tid =
-    pick (live home past tid) (quiet (Ev.Abort tid) Say.Idle)
+    given (live home past tid)
     (λ run. with_lines (Ev.Abort tid) (Say.Aborted tid) (Aborts tid ∷ []))
+    (quiet (Ev.Abort tid) Say.Idle)
 
 -- `fate` of a local transaction
 unfoldable pub of_fate : Home → SitePast → Tx → SiteHappening
 of_fate home past tx =
-    pick (local_of (records home past) tx)
-    (pick (live_of_tx home past tx)
-    (quiet (Ev.Fate tx) (cond (attempts_of past tx == 0) Say.Unbegun Say.Ended))
-    (λ running. quiet (Ev.Fate tx) (Say.Running running)))
+    given (local_of (records home past) tx)
     (λ committed. quiet (Ev.Fate tx) (Say.Committed committed))
+    (given (live_of_tx home past tx)
+    (λ running. quiet (Ev.Fate tx) (Say.Running running))
+    (quiet (Ev.Fate tx) (cond (attempts_of past tx == 0) Say.Unbegun Say.Ended)))
 
 -- the finished operations of a run: its granted accesses, and its ticket
 abbrev pub done : Run → ℕ
@@ -189,9 +193,9 @@ unfoldable pub of_work : Home → SitePast → Tid → ℕ → ℕ → PlainAct 
 of_work home past tid e n act =
     let message = To.Work tid e n act in
     when (is_over home past tid) (unknown home past message tid n)
-    (pick (live home past tid)
-    (when ((e == 0) && (n == 0)) (first_work home past message tid n act) (unknown home past message tid n))
-    (work_live home past message tid e n act))
+    (given (live home past tid)
+    (work_live home past message tid e n act)
+    (when ((e == 0) && (n == 0)) (first_work home past message tid n act) (unknown home past message tid n)))
 
 -- the taking of the ticket by a live subtransaction
 unfoldable pub take_live : Home → SitePast → ToSite → Tid → ℕ → ℕ → Run → SiteHappening
@@ -204,7 +208,7 @@ unfoldable pub of_take : Home → SitePast → Tid → ℕ → ℕ → SiteHappe
 of_take home past tid e n =
     let message = To.Take tid e n in
     when (is_over home past tid) (unknown home past message tid n)
-    (pick (live home past tid) (unknown home past message tid n) (take_live home past message tid e n))
+    (given (live home past tid) (take_live home past message tid e n) (unknown home past message tid n))
 
 -- a yes vote that was given before
 unfoldable pub votes_again : Tid → ℕ → ℕ → Held → SiteHappening
@@ -242,22 +246,23 @@ votes_yes home past tid e n run ticket =
 -- a live subtransaction that has its ticket is sealed, unless its rule refuses that
 unfoldable pub seals_global : Home → SitePast → Tid → ℕ → ℕ → Run → ℕ → SiteHappening
 seals_global home past tid e n run ticket =
-    pick (stop_of home past run) (votes_yes home past tid e n run ticket)
+    given (stop_of home past run)
     (λ why. votes_no tid e n (Some why) (Refuses tid why ∷ []))
+    (votes_yes home past tid e n run ticket)
 
 -- a Prepare of a live subtransaction names this epoch and its finished operations, the ticket among them
 unfoldable pub prepare_live : Home → SitePast → Tid → ℕ → ℕ → Run → SiteHappening
 prepare_live home past tid e n run =
     when ((e == epoch home past) && (n == done run))
-    (pick run.ticket (votes_no tid e n None []) (seals_global home past tid e n run))
+    (given run.ticket (seals_global home past tid e n run) (votes_no tid e n None []))
     (votes_no tid e n None [])
 
 -- a Prepare: a sealed one votes again where it was sealed in that epoch
 unfoldable pub of_prepare : Home → SitePast → Tid → ℕ → ℕ → SiteHappening
 of_prepare home past tid e n =
-    pick (doubt_of (records home past) tid)
-    (pick (live home past tid) (votes_no tid e n None []) (prepare_live home past tid e n))
+    given (doubt_of (records home past) tid)
     (λ held. when (held.epoch == e) (votes_again tid e n held) (votes_no tid e n None []))
+    (given (live home past tid) (prepare_live home past tid e n) (votes_no tid e n None []))
 
 -- an acknowledgement, where the protocol sends one
 abbrev pub ack_of : Home → Tid → Decision → List FromSite
@@ -296,9 +301,9 @@ unheld home tid decision lines =
 -- a decision
 unfoldable pub of_decide : Home → SitePast → Tid → Decision → SiteHappening
 of_decide home past tid decision =
-    pick (doubt_of (records home past) tid)
-    (pick (live home past tid) (unheld home tid decision []) (λ run. unheld home tid decision (Aborts tid ∷ [])))
+    given (doubt_of (records home past) tid)
     (λ held. settles home tid decision)
+    (given (live home past tid) (λ run. unheld home tid decision (Aborts tid ∷ [])) (unheld home tid decision []))
 
 -- a message of the coordinator
 unfoldable pub of_give : Home → SitePast → ToSite → SiteHappening
@@ -310,15 +315,17 @@ of_give home past (To.Decide tid decision) = of_decide home past tid decision
 -- `ask`: an inquiry about a subtransaction in doubt
 unfoldable pub of_ask : Home → SitePast → Tid → SiteHappening
 of_ask home past tid =
-    pick (doubt_of (records home past) tid) (quiet (Ev.Ask tid) Say.Idle)
+    given (doubt_of (records home past) tid)
     (λ held. record { event = Ev.Ask tid; answer = Say.Asks tid; sends = From.Inquiry tid ∷ []; calls = []; lines = [] })
+    (quiet (Ev.Ask tid) Say.Idle)
 
 -- `drop`: a site may drop a live subtransaction by itself
 unfoldable pub of_drop : Home → SitePast → Tid → SiteHappening
 of_drop home past tid =
     when (is_local past tid) (quiet (Ev.Drop tid) Say.Idle)
-    (pick (live home past tid) (quiet (Ev.Drop tid) Say.Idle)
-    (λ run. with_lines (Ev.Drop tid) (Say.Dropped tid) (Aborts tid ∷ [])))
+    (given (live home past tid)
+    (λ run. with_lines (Ev.Drop tid) (Say.Dropped tid) (Aborts tid ∷ []))
+    (quiet (Ev.Drop tid) Say.Idle))
 
 -- a restart cuts a torn rest back and forces the next epoch's Start
 unfoldable pub of_back : Home → SitePast → SiteHappening

@@ -4,7 +4,7 @@ use Rattle.mdb_base.specs.declared.acts.Step.{Step}
 use Rattle.mdb_base.specs.declared.names.Tid.{Tid}
 use Rattle.mdb_base.specs.declared.names.Tx.{Tx}
 use Rattle.mdb_base.specs.Programs.{plain_act}
-use Rattle.mdb_base.specs.Words.{when, pick, found, item_at}
+use Rattle.mdb_base.specs.Words.{when, given, found, item_at}
 use Rattle.fed_rules.specs.declared.answers.Answer.{Answer}
 use Rattle.fed_rules.specs.declared.answers.Answer.TheVariants as Say
 use Rattle.fed_rules.specs.declared.events.SiteEvent.{SiteEvent}
@@ -47,14 +47,16 @@ run_reads run = oldest_first (found value_of run.acts)
 unfoldable pub with_live : Home → SitePast → Tx → (Tid → Run → Request SiteEvent) → Request SiteEvent
 with_live home past tx next =
     when (is_down past) (Declines Say.Down)
-    (pick (live_of_tx home past tx) (Declines Say.Idle)
-    (λ tid. pick (live home past tid) (Declines Say.Idle) (next tid)))
+    (given (live_of_tx home past tx)
+    (λ tid. given (live home past tid) (next tid) (Declines Say.Idle))
+    (Declines Say.Idle))
 
 -- `step`: the next step of the live attempt
 unfoldable pub next_step : List Step → Tid → Run → Request SiteEvent
 next_step steps tid run =
-    pick (item_at steps (done run)) (Declines Say.End)
+    given (item_at steps (done run))
     (λ step. Submits (Ev.Act tid (plain_act (run_reads run) step.act)))
+    (Declines Say.End)
 
 -- `commit`: every step is done
 unfoldable pub when_done : List Step → Tid → Run → Request SiteEvent
@@ -70,7 +72,7 @@ request Fate home steps past tx = Submits (Ev.Fate tx)
 
 -- and of one that may be no transaction of its own
 unfoldable pub own_request : Verb → Home → Option (List Step) → SitePast → Tx → Request SiteEvent
-own_request verb home program past tx = pick program (Declines Say.None) (λ steps. request verb home steps past tx)
+own_request verb home program past tx = given program (λ steps. request verb home steps past tx) (Declines Say.None)
 
 -- the answer to a request
 abbrev pub answer_to : Home → SitePast → Request SiteEvent → Answer

@@ -5,7 +5,7 @@ use Rattle.mdb_base.specs.declared.names.SiteId.{SiteId}
 use Rattle.mdb_base.specs.declared.names.Tid.{Tid}
 use Rattle.mdb_base.specs.declared.names.Tx.{Tx}
 use Rattle.mdb_base.specs.Names.{same_site}
-use Rattle.mdb_base.specs.Words.{pick, those, item_at}
+use Rattle.mdb_base.specs.Words.{given, those, item_at}
 use Rattle.fed_rules.specs.declared.answers.Answer.{Answer}
 use Rattle.fed_rules.specs.declared.answers.Answer.TheVariants as Say
 use Rattle.fed_rules.specs.declared.commands.Command.{Command}
@@ -113,8 +113,9 @@ coord_requested scenario story (Declines answer) = Nowhere answer
 -- a command of a local transaction comes to its site; without one it comes to this
 unfoldable pub on_local : Scenario → Story → Verb → Tx → Happened → Happened
 on_local scenario story verb tx nowhere =
-    pick (local_home scenario tx) nowhere
+    given (local_home scenario tx)
     (λ home. requested home story (request verb home (program_of scenario tx) (past_of home.site story) tx))
+    nowhere
 
 -- a command of a global transaction
 unfoldable pub on_go : Scenario → Story → Tx → Happened
@@ -132,18 +133,19 @@ on_attempt scenario story tid event = coord_requested scenario story (attempt_re
 
 -- an event of a declared site
 unfoldable pub on_site : Scenario → Story → SiteId → SiteEvent → Happened
-on_site scenario story site event = pick (home_of scenario site) (Nowhere Say.None) (λ home. at_site home story event)
+on_site scenario story site event = given (home_of scenario site) (λ home. at_site home story event) (Nowhere Say.None)
 
 -- `give`: the site takes a message that was sent to it
 unfoldable pub on_give : Scenario → Story → SiteId → ℕ → Happened
 on_give scenario story site place =
-    pick (item_at (sent_to site story) place) (Nowhere Say.None) (λ message. on_site scenario story site (Site_event.Give message))
+    given (item_at (sent_to site story) place) (λ message. on_site scenario story site (Site_event.Give message)) (Nowhere Say.None)
 
 -- `take`: the coordinator takes a message that was sent from the site
 unfoldable pub on_take : Scenario → Story → SiteId → ℕ → Happened
 on_take scenario story site place =
-    pick (item_at (sent_from site story) place) (Nowhere Say.None)
+    given (item_at (sent_from site story) place)
     (λ message. at_coordinator scenario story (Coord_event.Take site message))
+    (Nowhere Say.None)
 
 -- an event of an actor: the coordinator is actor 0
 unfoldable pub on_actor : Scenario → Story → ℕ → CoordEvent → SiteEvent → Happened

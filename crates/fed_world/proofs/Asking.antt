@@ -5,8 +5,8 @@ use Rattle.mdb_base.specs.declared.names.SiteId.{SiteId}
 use Rattle.mdb_base.specs.declared.names.Tid.{Tid}
 use Rattle.mdb_base.specs.declared.names.Tx.{Tx}
 use Rattle.mdb_base.specs.Names.{same_site}
-use Rattle.mdb_base.specs.Words.{item_at, map_some, pick}
-use Rattle.mdb_base.proofs.OptionLaws.{some_parts, pick_some, pick_none}
+use Rattle.mdb_base.specs.Words.{given, item_at, map_some}
+use Rattle.mdb_base.proofs.OptionLaws.{some_parts, given_some, given_none}
 use Rattle.mdb_base.proofs.NameLaws.{same_site-refl}
 use Rattle.order_laws.specs.Chains.{In}
 use Rattle.order_laws.proofs.InLaws.{item_at-in}
@@ -84,23 +84,23 @@ no_global_program scenario site tx e = ap (λ (o : Option TxLine). map_some (λ 
 
 own_some : (verb : Verb) (home : Home) (program : Option (List Step)) (past : SitePast) (tx : Tx) (steps : List Step) → program ≡ Some steps → own_request verb home program past tx ≡ request verb home steps past tx
 unfolding own_request
-own_some verb home program past tx steps e = pick_some program _ _ steps e
+own_some verb home program past tx steps e = given_some program _ _ steps e
 
 -- what comes to the one command comes to the other
-pub asked_same : (asked made : Asked) (command given : Command) (session : Session) (story : Story) → asked ≡ made → command ≡ given → IsAsked made given session story → IsAsked asked command session story
-asked_same asked made command given session story is same h =
+pub asked_same : (asked made : Asked) (command other : Command) (session : Session) (story : Story) → asked ≡ made → command ≡ other → IsAsked made other session story → IsAsked asked command session story
+asked_same asked made command other session story is same h =
     subst (λ (a : Asked). IsAsked a command session story) (sym is) (subst (λ (c : Command). IsAsked made c session story) (sym same) h)
 
 module _ (session : Session) (story : Story) where
   -- what comes to a declared site, and without it to nobody
   pub site_asked : (site : SiteId) (ask : SiteAsk) (command : Command) (none : Happened) (r : Home → Request SiteEvent) → none ≡ Nowhere Say.None
-      → happens session.plan story command ≡ pick (home_of session.plan site) none (λ home. requested home story (r home))
+      → happens session.plan story command ≡ given (home_of session.plan site) (λ home. requested home story (r home)) none
       → ((home : Home) → home.site ≡ site → r home ≡ site_request ask home (programs_at session home.site) (past_of home.site story))
       → WasSent ask site story → IsAsked (to_site session.plan site ask) command session story
   site_asked site ask command none r nothing is asks sent = by_place (place_in (sites session.plan) site) refl
     where
       by_place : (o : Option ℕ) → place_in (sites session.plan) site ≡ o → IsAsked (at_place o ask) command session story
-      by_place None e = is ∙ (pick_none (home_of session.plan site) none _ (no_home_placeless session.plan site e) ∙ nothing)
+      by_place None e = is ∙ (given_none (home_of session.plan site) none _ (no_home_placeless session.plan site e) ∙ nothing)
       by_place (Some place) e =
           let there : slice_get (sites session.plan) place ≡ Some site = at_its_place (sites session.plan) site place e in
           let found = home_at_place session.plan site place there in
@@ -110,7 +110,7 @@ module _ (session : Session) (story : Story) where
             home = home;
             declared = home-again session.plan site home found.1;
             at = there ∙ ap (λ (s : SiteId). Some s) (sym own);
-            happens = is ∙ (pick_some (home_of session.plan site) none _ home found.1 ∙ ap (requested home story) (asks home own));
+            happens = is ∙ (given_some (home_of session.plan site) none _ home found.1 ∙ ap (requested home story) (asks home own));
             sent = subst (λ (s : SiteId). WasSent ask s story) (sym own) sent;
           }
 
@@ -123,13 +123,13 @@ module _ (session : Session) (story : Story) where
 
   local_none : (verb : Verb) (tx : Tx) (none : Happened) → local_site session.plan tx ≡ None → on_local session.plan story verb tx none ≡ none
   unfolding on_local
-  local_none verb tx none e = pick_none (local_home session.plan tx) none _ (ap (home_at session.plan) e)
+  local_none verb tx none e = given_none (local_home session.plan tx) none _ (ap (home_at session.plan) e)
 
   local_some : (verb : Verb) (tx : Tx) (none : Happened) (site : SiteId) → local_site session.plan tx ≡ Some site
-      → on_local session.plan story verb tx none ≡ pick (home_of session.plan site) none (λ home. requested home story (request verb home (program_of session.plan tx) (past_of home.site story) tx))
+      → on_local session.plan story verb tx none ≡ given (home_of session.plan site) (λ home. requested home story (request verb home (program_of session.plan tx) (past_of home.site story) tx)) none
   unfolding on_local
   local_some verb tx none site e =
-      ap (λ (o : Option SiteId). pick (home_at session.plan o) none (λ (home : Home). requested home story (request verb home (program_of session.plan tx) (past_of home.site story) tx))) e
+      ap (λ (o : Option SiteId). given (home_at session.plan o) (λ (home : Home). requested home story (request verb home (program_of session.plan tx) (past_of home.site story) tx)) none) e
 
   -- a command of a transaction: it comes to its site, and where it is not local, so much holds
   pub home_asked : (verb : Verb) (tx : Tx) (ask : SiteAsk) (command : Command) (none : Happened) (other : Asked) → happens session.plan story command ≡ on_local session.plan story verb tx none
@@ -155,7 +155,7 @@ module _ (session : Session) (story : Story) where
 
   fate_nobody : (tx : Tx) (site : SiteId) → local_site session.plan tx ≡ Some site → coord_requested session.plan story (fate_request (global_program session.plan tx) tx) ≡ Nowhere Say.None
   unfolding fate_request
-  fate_nobody tx site e = ap (coord_requested session.plan story) (pick_none (global_program session.plan tx) (Declines Say.None) _ (no_global_program session.plan site tx e))
+  fate_nobody tx site e = ap (coord_requested session.plan story) (given_none (global_program session.plan tx) (Declines Say.None) _ (no_global_program session.plan site tx e))
 
   fate_happens : (tx : Tx) → happens session.plan story (Cmd.Fate tx) ≡ on_local session.plan story Fate tx (coord_requested session.plan story (fate_request (global_program session.plan tx) tx))
   unfolding happens on_fate
@@ -180,7 +180,7 @@ module _ (session : Session) (story : Story) where
   unfolding happens on_attempt
   late_asked tid = record { happens = refl; from = tt }
 
-  give_happens : (site : SiteId) (n : ℕ) → happens session.plan story (Cmd.Give site n) ≡ pick (item_at (sent_to site story) n) (Nowhere Say.None) (λ message. on_site session.plan story site (Site_event.Give message))
+  give_happens : (site : SiteId) (n : ℕ) → happens session.plan story (Cmd.Give site n) ≡ given (item_at (sent_to site story) n) (λ message. on_site session.plan story site (Site_event.Give message)) (Nowhere Say.None)
   unfolding happens on_give
   give_happens site n = refl
 
@@ -189,12 +189,12 @@ module _ (session : Session) (story : Story) where
   give_asked site n = by_message (item_at (sent_to site story) n) refl
     where
       by_message : (o : Option ToSite) → item_at (sent_to site story) n ≡ o → IsAsked (to_give session.plan site o) (Cmd.Give site n) session story
-      by_message None e = give_happens site n ∙ pick_none (item_at (sent_to site story) n) _ _ e
+      by_message None e = give_happens site n ∙ given_none (item_at (sent_to site story) n) _ _ e
       by_message (Some message) e =
-          event_asked site (At.Give message) (Cmd.Give site n) (Site_event.Give message) (give_happens site n ∙ pick_some (item_at (sent_to site story) n) _ _ message e) (λ home programs past. refl)
+          event_asked site (At.Give message) (Cmd.Give site n) (Site_event.Give message) (give_happens site n ∙ given_some (item_at (sent_to site story) n) _ _ message e) (λ home programs past. refl)
           (item_at-in (sent_to site story) n message e)
 
-  take_happens : (site : SiteId) (n : ℕ) → happens session.plan story (Cmd.Take site n) ≡ pick (item_at (sent_from site story) n) (Nowhere Say.None) (λ message. at_coordinator session.plan story (Coord_event.Take site message))
+  take_happens : (site : SiteId) (n : ℕ) → happens session.plan story (Cmd.Take site n) ≡ given (item_at (sent_from site story) n) (λ message. at_coordinator session.plan story (Coord_event.Take site message)) (Nowhere Say.None)
   unfolding happens on_take
   take_happens site n = refl
 
@@ -207,9 +207,9 @@ module _ (session : Session) (story : Story) where
       by_home message e (Some home) is = among_sites session.plan site home is
 
       by_message : (o : Option FromSite) → item_at (sent_from site story) n ≡ o → IsAsked (to_take site o) (Cmd.Take site n) session story
-      by_message None e = take_happens site n ∙ pick_none (item_at (sent_from site story) n) _ _ e
+      by_message None e = take_happens site n ∙ given_none (item_at (sent_from site story) n) _ _ e
       by_message (Some message) e =
-          record { happens = take_happens site n ∙ pick_some (item_at (sent_from site story) n) _ _ message e; from = by_home message e (home_of session.plan site) refl }
+          record { happens = take_happens site n ∙ given_some (item_at (sent_from site story) n) _ _ message e; from = by_home message e (home_of session.plan site) refl }
 
   actor_zero : (at_coord : CoordEvent) (event : SiteEvent) → on_actor session.plan story zero at_coord event ≡ at_coordinator session.plan story at_coord
   unfolding on_actor

@@ -9,7 +9,7 @@ use Rattle.mdb_base.specs.declared.replies.Reply.TheVariants as Reply_is
 use Rattle.mdb_base.specs.declared.replies.Why.{Why}
 use Rattle.mdb_base.specs.declared.replies.Why.TheVariants as Because
 use Rattle.mdb_base.specs.Names.{same_tid, same_tx}
-use Rattle.mdb_base.specs.Words.{some_of, when, pick}
+use Rattle.mdb_base.specs.Words.{some_of, when, given}
 use Rattle.mdb_base.proofs.NameLaws.{same_tid-refl}
 use Rattle.presumptions.specs.declared.Decision.{Decision}
 use Rattle.presumptions.specs.Table.{forces}
@@ -89,10 +89,10 @@ unfolding when
 made_when home past t event true a b p q = p refl
 made_when home past t event false a b p q = q refl
 
-made_pick : {A : Type 0} (home : Home) (past : SitePast) (t : Tid) (event : SiteEvent) (o : Option A) (none : SiteHappening) (some : A → SiteHappening) → (o ≡ None → Made home past t event none) → ((x : A) → o ≡ Some x → Made home past t event (some x)) → Made home past t event (pick o none some)
-unfolding pick
-made_pick home past t event None none some p q = p refl
-made_pick home past t event (Some x) none some p q = q x refl
+made_given : {A : Type 0} (home : Home) (past : SitePast) (t : Tid) (event : SiteEvent) (o : Option A) (none : SiteHappening) (some : A → SiteHappening) → (o ≡ None → Made home past t event none) → ((x : A) → o ≡ Some x → Made home past t event (some x)) → Made home past t event (given o some none)
+unfolding given
+made_given home past t event None none some p q = p refl
+made_given home past t event (Some x) none some p q = q x refl
 
 -- the event is no access of the attempt
 abbrev NoAccess : Tid → SiteEvent → Type 0
@@ -131,8 +131,8 @@ plain-made home past t event answer e r =
 pub begin-made : (home : Home) (past : SitePast) (t : Tid) → Made home past t (Ev.Begin t) (of_begin home past t)
 unfolding of_begin
 begin-made home past t =
-    made_pick home past t _ _ _ _
-    (λ none. made_pick home past t _ _ _ _
+    made_given home past t _ _ _ _
+    (λ none. made_given home past t _ _ _ _
     (λ free. record {
       heard = refl;
       move = Opening (record {
@@ -214,7 +214,7 @@ idle-read t act = refl
 pub act-made : (home : Home) (past : SitePast) (t : Tid) (act : PlainAct) → Made home past t (Ev.Act t act) (of_act home past t act)
 unfolding of_act
 act-made home past t act =
-    made_pick home past t _ _ _ _ (λ none. plain-made home past t _ _ refl refl)
+    made_given home past t _ _ _ _ (λ none. plain-made home past t _ _ refl refl)
     (λ run alive. acts-made home past t act (reply_to home past run act) run (access-fits (epoch_start home past) (engine_lines past) run act) alive)
 
 -- a line of one engine line that ends the run
@@ -228,8 +228,8 @@ ends-made home past t event answer line p r own e =
 pub commit-made : (home : Home) (past : SitePast) (t : Tid) → Made home past t (Ev.Commit t) (of_commit home past t)
 unfolding of_commit seals_local
 commit-made home past t =
-    made_pick home past t _ _ _ _ (λ none. plain-made home past t _ _ refl refl)
-    (λ run alive. made_pick home past t _ _ _ _
+    made_given home past t _ _ _ _ (λ none. plain-made home past t _ _ refl refl)
+    (λ run alive. made_given home past t _ _ _ _
     (λ free. record {
       heard = refl;
       move = Closing (record {
@@ -250,14 +250,14 @@ commit-made home past t =
 pub abort-made : (home : Home) (past : SitePast) (t : Tid) → Made home past t (Ev.Abort t) (of_abort home past t)
 unfolding of_abort
 abort-made home past t =
-    made_pick home past t _ _ _ _ (λ none. plain-made home past t _ _ refl refl)
+    made_given home past t _ _ _ _ (λ none. plain-made home past t _ _ refl refl)
     (λ run alive. ends-made home past t _ _ (Aborts t) refl refl refl (given-up (Aborts t) (run_of home past t) refl))
 
 pub decide-made : (home : Home) (past : SitePast) (t : Tid) (decision : Decision) → Made home past t (Ev.Give (To.Decide t decision)) (of_decide home past t decision)
 unfolding of_decide unheld settles
 decide-made home past t decision =
-    made_pick home past t _ _ _ _
-    (λ none. made_pick home past t _ _ _ _
+    made_given home past t _ _ _ _
+    (λ none. made_given home past t _ _ _ _
     (λ dead. record { heard = refl; move = Rests (record { reads = refl; unsealed = refl }) refl })
     (λ run alive. record { heard = refl; move = Gone (record { reads = refl; unsealed = refl }) (own-line t (Aborts t) (run_of home past t) refl ∙ given-up (Aborts t) (run_of home past t) refl) }))
     (λ held d. record {
@@ -273,21 +273,21 @@ decide-made home past t decision =
 pub ask-made : (home : Home) (past : SitePast) (t tid : Tid) → Made home past t (Ev.Ask tid) (of_ask home past tid)
 unfolding of_ask
 ask-made home past t tid =
-    made_pick home past t _ _ _ _ (λ none. plain-made home past t _ _ refl refl)
+    made_given home past t _ _ _ _ (λ none. plain-made home past t _ _ refl refl)
     (λ held d. record { heard = refl; move = Rests (record { reads = refl; unsealed = refl }) refl })
 
 pub drop-made : (home : Home) (past : SitePast) (t : Tid) → Made home past t (Ev.Drop t) (of_drop home past t)
 unfolding of_drop
 drop-made home past t =
     made_when home past t _ _ _ _ (λ c. plain-made home past t _ _ refl refl) (λ c.
-    made_pick home past t _ _ _ _ (λ none. plain-made home past t _ _ refl refl)
+    made_given home past t _ _ _ _ (λ none. plain-made home past t _ _ refl refl)
     (λ run alive. ends-made home past t _ _ (Aborts t) refl refl refl (given-up (Aborts t) (run_of home past t) refl)))
 
 pub fate-made : (home : Home) (past : SitePast) (t : Tid) (tx : Tx) → Made home past t (Ev.Fate tx) (of_fate home past tx)
 unfolding of_fate
 fate-made home past t tx =
-    made_pick home past t _ _ _ _
-    (λ e. made_pick home past t _ _ _ _ (λ f. plain-made home past t _ _ (by_test _) refl) (λ running f. plain-made home past t _ _ refl refl))
+    made_given home past t _ _ _ _
+    (λ e. made_given home past t _ _ _ _ (λ f. plain-made home past t _ _ (by_test _) refl) (λ running f. plain-made home past t _ _ refl refl))
     (λ committed e. plain-made home past t _ _ refl refl)
   where
     by_test : (b : Bool) → (stops (cond b Say.Unbegun Say.Ended) || comes_up (cond b Say.Unbegun Say.Ended)) ≡ false

@@ -13,7 +13,7 @@ use Rattle.mdb_base.specs.declared.replies.Reply.TheVariants as Reply_is
 use Rattle.mdb_base.specs.declared.replies.Why.TheVariants as Because
 use Rattle.mdb_base.specs.Names.{same_site}
 use Rattle.mdb_base.specs.Programs.{plain_act}
-use Rattle.mdb_base.specs.Words.{Each, when, pick, how_many, found, with_some}
+use Rattle.mdb_base.specs.Words.{Each, when, given, how_many, found, with_some}
 use Rattle.mdb_base.proofs.ListLaws.{each_map, those_pass}
 use Rattle.mdb_base.proofs.Words.{cond-true}
 use Rattle.mdb_base.proofs.NameLaws.{same_tid-refl}
@@ -80,10 +80,10 @@ module _ (protocols : List Participant) (policy : Policy) (past : CoordPast) whe
   checked_when event true a b p q = p refl
   checked_when event false a b p q = q refl
 
-  checked_pick : {A : Type 0} (event : CoordEvent) (o : Option A) (none : CoordHappening) (some : A → CoordHappening) → (o ≡ None → IsChecked protocols policy past event none) → ((a : A) → o ≡ Some a → IsChecked protocols policy past event (some a)) → IsChecked protocols policy past event (pick o none some)
-  unfolding pick
-  checked_pick event None none some p q = p refl
-  checked_pick event (Some a) none some p q = q a refl
+  checked_given : {A : Type 0} (event : CoordEvent) (o : Option A) (none : CoordHappening) (some : A → CoordHappening) → (o ≡ None → IsChecked protocols policy past event none) → ((a : A) → o ≡ Some a → IsChecked protocols policy past event (some a)) → IsChecked protocols policy past event (given o some none)
+  unfolding given
+  checked_given event None none some p q = p refl
+  checked_given event (Some a) none some p q = q a refl
 
   quiet_checked : (event : CoordEvent) (answer : Answer) → Refuses protocols past event answer → IsChecked protocols policy past event (quiet event answer)
   quiet_checked event answer r = record { takes = tt; refuses = r }
@@ -182,8 +182,8 @@ module _ (protocols : List Participant) (policy : Policy) (past : CoordPast) whe
   go_checked : (tid : Tid) (steps : List Step) → IsChecked protocols policy past (Ev.Go tid steps) (of_go protocols past tid steps)
   unfolding of_go
   go_checked tid steps =
-      checked_pick protocols policy past _ _ _ _
-      (λ e. checked_pick protocols policy past _ _ _ _
+      checked_given protocols policy past _ _ _ _
+      (λ e. checked_given protocols policy past _ _ _ _
       (λ f. record { takes = messages_checked protocols policy past (Ev.Go tid steps) tid _ (go_sends tid steps (participants protocols (quiet (Ev.Go tid steps) (Say.Begun tid) ∷ past) tid)); refuses = tt })
       (λ running f. quiet_checked protocols policy past _ _ tt))
       (λ committed e. quiet_checked protocols policy past _ _ tt)
@@ -215,7 +215,7 @@ module _ (protocols : List Participant) (policy : Policy) (past : CoordPast) whe
   unfolding yes_vote last_vote
   yes_checked site tid ticket t =
       checked_when protocols policy past _ _ _ _
-      (λ all. checked_pick protocols policy past _ _ _ _ (λ none. commits_checked protocols policy past _ tid _)
+      (λ all. checked_given protocols policy past _ _ _ _ (λ none. commits_checked protocols policy past _ tid _)
       (λ edges e. aborts_checked protocols policy past _ tid (For.Cycle edges) (record { tid = tid; site = site; ticket = ticket; is_vote = refl; is_counted = t; cycle = e })))
       (λ more. quiet_checked protocols policy past _ _ tt)
 
@@ -289,8 +289,8 @@ module _ (protocols : List Participant) (policy : Policy) (past : CoordPast) whe
   answered_checked (Ev.Late tid) =
       checked_when protocols policy past _ _ _ _ (λ t. aborts_checked protocols policy past _ tid For.Late tt) (λ t. quiet_checked protocols policy past _ _ tt)
   answered_checked (Ev.Fate tx) =
-      checked_pick protocols policy past _ _ _ _
-      (λ none. checked_pick protocols policy past _ _ _ _ (λ n. quiet_checked protocols policy past _ _ (fate_refuses tx _)) (λ running e. quiet_checked protocols policy past _ _ tt))
+      checked_given protocols policy past _ _ _ _
+      (λ none. checked_given protocols policy past _ _ _ _ (λ n. quiet_checked protocols policy past _ _ (fate_refuses tx _)) (λ running e. quiet_checked protocols policy past _ _ tt))
       (λ committed e. quiet_checked protocols policy past _ _ tt)
   answered_checked (Ev.Halt cut) = quiet_checked protocols policy past _ _ tt
   answered_checked (Ev.Trip calls cut) = quiet_checked protocols policy past _ _ tt

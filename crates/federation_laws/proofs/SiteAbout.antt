@@ -6,7 +6,7 @@ use Rattle.mdb_base.specs.declared.names.Tid.{Tid}
 use Rattle.mdb_base.specs.declared.names.Tx.{Tx}
 use Rattle.mdb_base.specs.declared.replies.Reply.{Reply}
 use Rattle.mdb_base.specs.declared.replies.Why.{Why}
-use Rattle.mdb_base.specs.Words.{Each, when, pick}
+use Rattle.mdb_base.specs.Words.{Each, when, given}
 use Rattle.presumptions.specs.declared.Decision.{Decision}
 use Rattle.presumptions.specs.declared.Decision.TheVariants as Decided
 use Rattle.presumptions.specs.Table.{forces, acks}
@@ -62,10 +62,10 @@ unfolding when
 about_when home past tid true a b p q = p
 about_when home past tid false a b p q = q
 
-about_pick : {A : Type 0} (home : Home) (past : SitePast) (tid : Tid) (o : Option A) (none : SiteHappening) (some : A → SiteHappening) → IsAbout home past tid none → ((x : A) → IsAbout home past tid (some x)) → IsAbout home past tid (pick o none some)
-unfolding pick
-about_pick home past tid None none some p q = p
-about_pick home past tid (Some x) none some p q = q x
+about_given : {A : Type 0} (home : Home) (past : SitePast) (tid : Tid) (o : Option A) (none : SiteHappening) (some : A → SiteHappening) → IsAbout home past tid none → ((x : A) → IsAbout home past tid (some x)) → IsAbout home past tid (given o some none)
+unfolding given
+about_given home past tid None none some p q = p
+about_given home past tid (Some x) none some p q = q x
 
 -- a line of engine lines alone
 lines_about : (home : Home) (past : SitePast) (tid : Tid) (event : SiteEvent) (answer : Answer) (lines : List EngineLine) → (stops answer || comes_up answer) ≡ false → Each (λ line. tid_of line ≡ tid) lines → IsAbout home past tid (with_lines event answer lines)
@@ -74,27 +74,27 @@ lines_about home past tid event answer lines p l = record { plain = p; lines = l
 pub begin_about : (home : Home) (past : SitePast) (tid : Tid) → IsAbout home past tid (of_begin home past tid)
 unfolding of_begin
 begin_about home past tid =
-    about_pick home past tid _ _ _
-    (about_pick home past tid _ _ _ (lines_about home past tid _ _ _ refl (refl, tt)) (λ running. lines_about home past tid _ _ [] refl tt))
+    about_given home past tid _ _ _
+    (about_given home past tid _ _ _ (lines_about home past tid _ _ _ refl (refl, tt)) (λ running. lines_about home past tid _ _ [] refl tt))
     (λ committed. lines_about home past tid _ _ [] refl tt)
 
 pub act_about : (home : Home) (past : SitePast) (tid : Tid) (act : PlainAct) → IsAbout home past tid (of_act home past tid act)
 unfolding of_act
 act_about home past tid act =
-    about_pick home past tid _ _ _ (lines_about home past tid _ _ [] refl tt)
+    about_given home past tid _ _ _ (lines_about home past tid _ _ [] refl tt)
     (λ run. lines_about home past tid _ _ _ (act_plain tid _ act) (refl, tt))
 
 pub commit_about : (home : Home) (past : SitePast) (tid : Tid) → IsAbout home past tid (of_commit home past tid)
 unfolding of_commit seals_local
 commit_about home past tid =
-    about_pick home past tid _ _ _ (lines_about home past tid _ _ [] refl tt) (λ run.
-    about_pick home past tid _ _ _ (record { plain = refl; lines = (refl, (refl, tt)); sends = tt; calls = (refl, (tt, tt)); calm = refl; locals = (tt, (tt, tt)) })
+    about_given home past tid _ _ _ (lines_about home past tid _ _ [] refl tt) (λ run.
+    about_given home past tid _ _ _ (record { plain = refl; lines = (refl, (refl, tt)); sends = tt; calls = (refl, (tt, tt)); calm = refl; locals = (tt, (tt, tt)) })
     (λ why. lines_about home past tid _ _ _ (refusal_plain why) (refl, tt)))
 
 pub abort_about : (home : Home) (past : SitePast) (tid : Tid) → IsAbout home past tid (of_abort home past tid)
 unfolding of_abort
 abort_about home past tid =
-    about_pick home past tid _ _ _ (lines_about home past tid _ _ [] refl tt) (λ run. lines_about home past tid _ _ _ refl (refl, tt))
+    about_given home past tid _ _ _ (lines_about home past tid _ _ [] refl tt) (λ run. lines_about home past tid _ _ _ refl (refl, tt))
 
 did_about : (home : Home) (past : SitePast) (message : ToSite) (tid : Tid) (n : ℕ) (reply : Reply) (lines : List EngineLine) → Each (λ line. tid_of line ≡ tid) lines → IsAbout home past tid (did home past message tid n reply lines)
 unfolding did
@@ -113,7 +113,7 @@ unfolding of_work work_live first_work next_work
 work_about home past tid e n act =
     let message = To.Work tid e n act in
     about_when home past tid _ _ _ (unknown_about home past message tid n)
-    (about_pick home past tid _ _ _
+    (about_given home past tid _ _ _
     (about_when home past tid _ _ _ (did_about home past message tid n _ _ (refl, (refl, tt))) (unknown_about home past message tid n))
     (λ run. about_when home past tid _ _ _ (unknown_about home past message tid n)
     (about_when home past tid _ _ _ (did_about home past message tid n _ _ (refl, tt)) (repeated_about home past message tid n run))))
@@ -123,7 +123,7 @@ unfolding of_take take_live next_take
 take_about home past tid e n =
     let message = To.Take tid e n in
     about_when home past tid _ _ _ (unknown_about home past message tid n)
-    (about_pick home past tid _ _ _ (unknown_about home past message tid n)
+    (about_given home past tid _ _ _ (unknown_about home past message tid n)
     (λ run. about_when home past tid _ _ _ (unknown_about home past message tid n)
     (about_when home past tid _ _ _ (did_about home past message tid n _ _ (refl, tt)) (repeated_about home past message tid n run))))
 
@@ -134,11 +134,11 @@ no_about home past tid e n why lines l = record { plain = refl; lines = l; sends
 pub prepare_about : (home : Home) (past : SitePast) (tid : Tid) (e n : ℕ) → IsAbout home past tid (of_prepare home past tid e n)
 unfolding of_prepare prepare_live seals_global votes_yes votes_again
 prepare_about home past tid e n =
-    about_pick home past tid _ _ _
-    (about_pick home past tid _ _ _ (no_about home past tid e n _ [] tt)
+    about_given home past tid _ _ _
+    (about_given home past tid _ _ _ (no_about home past tid e n _ [] tt)
     (λ run. about_when home past tid _ _ _
-    (about_pick home past tid _ _ _ (no_about home past tid e n _ [] tt)
-    (λ ticket. about_pick home past tid _ _ _
+    (about_given home past tid _ _ _ (no_about home past tid e n _ [] tt)
+    (λ ticket. about_given home past tid _ _ _
     (record { plain = refl; lines = (refl, tt); sends = (refl, tt); calls = (refl, (tt, tt)); calm = refl; locals = (tt, (tt, tt)) })
     (λ why. no_about home past tid e n _ _ (refl, tt))))
     (no_about home past tid e n _ [] tt)))
@@ -154,8 +154,8 @@ ack-speaks home tid decision = by_test (acks home.protocol decision)
 pub decide_about : (home : Home) (past : SitePast) (tid : Tid) (decision : Decision) → IsAbout home past tid (of_decide home past tid decision)
 unfolding of_decide settles unheld
 decide_about home past tid decision =
-    about_pick home past tid _ _ _
-    (about_pick home past tid _ _ _
+    about_given home past tid _ _ _
+    (about_given home past tid _ _ _
     (record { plain = refl; lines = tt; sends = ack-speaks home tid decision; calls = tt; calm = refl; locals = tt })
     (λ run. record { plain = refl; lines = (refl, tt); sends = ack-speaks home tid decision; calls = tt; calm = refl; locals = tt }))
     (λ held. record { plain = refl; lines = (settling-tid tid decision, tt); sends = ack-speaks home tid decision; calls = forced (forces home.protocol decision); calm = ap epoch_of (ended_records (after_call site_frame (disk home past) (Append (Rec.Ended tid decision))) (forces home.protocol decision)); locals = plain (forces home.protocol decision) })
@@ -171,20 +171,20 @@ decide_about home past tid decision =
 pub ask_about : (home : Home) (past : SitePast) (tid : Tid) → IsAbout home past tid (of_ask home past tid)
 unfolding of_ask
 ask_about home past tid =
-    about_pick home past tid _ _ _ (lines_about home past tid _ _ [] refl tt)
+    about_given home past tid _ _ _ (lines_about home past tid _ _ [] refl tt)
     (λ held. record { plain = refl; lines = tt; sends = (tt, tt); calls = tt; calm = refl; locals = tt })
 
 pub drop_about : (home : Home) (past : SitePast) (tid : Tid) → IsAbout home past tid (of_drop home past tid)
 unfolding of_drop
 drop_about home past tid =
     about_when home past tid _ _ _ (lines_about home past tid _ _ [] refl tt)
-    (about_pick home past tid _ _ _ (lines_about home past tid _ _ [] refl tt) (λ run. lines_about home past tid _ _ _ refl (refl, tt)))
+    (about_given home past tid _ _ _ (lines_about home past tid _ _ [] refl tt) (λ run. lines_about home past tid _ _ _ refl (refl, tt)))
 
 pub fate_about : (home : Home) (past : SitePast) (tid : Tid) (tx : Tx) → IsAbout home past tid (of_fate home past tx)
 unfolding of_fate
 fate_about home past tid tx =
-    about_pick home past tid _ _ _
-    (about_pick home past tid _ _ _ (lines_about home past tid _ _ [] (by_test _) tt) (λ running. lines_about home past tid _ _ [] refl tt))
+    about_given home past tid _ _ _
+    (about_given home past tid _ _ _ (lines_about home past tid _ _ [] (by_test _) tt) (λ running. lines_about home past tid _ _ [] refl tt))
     (λ committed. lines_about home past tid _ _ [] refl tt)
   where
     by_test : (t : Bool) → (stops (cond t Say.Unbegun Say.Ended) || comes_up (cond t Say.Unbegun Say.Ended)) ≡ false

@@ -22,7 +22,7 @@ use Rattle.commit_laws.proofs.SiteShut.{restored-sealed}
 use Rattle.site_history.specs.Accesses.{seals}
 use Rattle.federation_laws.proofs.SiteAbout.{begin_about, act_about, commit_about, abort_about, work_about, take_about, prepare_about, decide_about, drop_about}
 use Rattle.federation_laws.proofs.SiteMoves.{Ending, IsSealing, Moves, Same}
-use Rattle.federation_laws.proofs.SiteOperations.{moves_when, moves_pick, work_moves, take_moves}
+use Rattle.federation_laws.proofs.SiteOperations.{moves_when, moves_given, work_moves, take_moves}
 use Rattle.federation_laws.proofs.SiteSteps.{other_moves, prepare_moves, decide_moves, plain_moves, ask_moves, drop_moves}
 
 -- the event isn't one of the attempt as a local one
@@ -36,8 +36,8 @@ IsForeign g event = Unit {0}
 fate_moves : (home : Home) (g : Tid) (past : SitePast) (tx : Tx) → Moves home g past (Ev.Fate tx) (of_fate home past tx)
 unfolding of_fate
 fate_moves home g past tx =
-    moves_pick home g past _ _ _ _
-    (λ e. moves_pick home g past _ _ _ _ (λ f. plain_moves home g past _ _ (by_test _)) (λ running f. plain_moves home g past _ _ refl))
+    moves_given home g past _ _ _ _
+    (λ e. moves_given home g past _ _ _ _ (λ f. plain_moves home g past _ _ (by_test _)) (λ running f. plain_moves home g past _ _ refl))
     (λ committed e. plain_moves home g past _ _ refl)
   where
     by_test : (t : Bool) → (stops (cond t Say.Unbegun Say.Ended) || comes_up (cond t Say.Unbegun Say.Ended)) ≡ false

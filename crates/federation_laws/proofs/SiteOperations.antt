@@ -7,7 +7,7 @@ use Rattle.mdb_base.specs.declared.names.Tid.{Tid}
 use Rattle.mdb_base.specs.declared.replies.Reply.{Reply}
 use Rattle.mdb_base.specs.declared.replies.Reply.TheVariants as Reply_is
 use Rattle.mdb_base.specs.Names.{same_tid}
-use Rattle.mdb_base.specs.Words.{some_of, when, pick}
+use Rattle.mdb_base.specs.Words.{some_of, when, given}
 use Rattle.mdb_base.proofs.NameLaws.{same_tid-refl}
 use Rattle.mdb_base.proofs.JoinLaws.{length-map}
 use Rattle.fed_rules.specs.declared.events.SiteEvent.{SiteEvent}
@@ -29,10 +29,10 @@ unfolding when
 moves_when home g past event true a b p q = p refl
 moves_when home g past event false a b p q = q refl
 
-pub moves_pick : {A : Type 0} (home : Home) (g : Tid) (past : SitePast) (event : SiteEvent) (o : Option A) (none : SiteHappening) (some : A → SiteHappening) → (o ≡ None → Moves home g past event none) → ((x : A) → o ≡ Some x → Moves home g past event (some x)) → Moves home g past event (pick o none some)
-unfolding pick
-moves_pick home g past event None none some p q = p refl
-moves_pick home g past event (Some x) none some p q = q x refl
+pub moves_given : {A : Type 0} (home : Home) (g : Tid) (past : SitePast) (event : SiteEvent) (o : Option A) (none : SiteHappening) (some : A → SiteHappening) → (o ≡ None → Moves home g past event none) → ((x : A) → o ≡ Some x → Moves home g past event (some x)) → Moves home g past event (given o some none)
+unfolding given
+moves_given home g past event None none some p q = p refl
+moves_given home g past event (Some x) none some p q = q x refl
 
 -- the reply to an operation, with what it makes of the run
 did_moves : (home : Home) (g : Tid) (past : SitePast) (message : ToSite) (n : ℕ) (reply : Reply) (lines : List EngineLine) → Move home g past (Ev.Give message) (did home past message g n reply lines)
@@ -212,7 +212,7 @@ unfolding of_work work_live
 work_moves home g past e n act up =
     let message = To.Work g e n act in
     moves_when home g past _ _ _ _ (λ t. unknown_moves home g past message n) (λ over.
-    moves_pick home g past _ _ _ _
+    moves_given home g past _ _ _ _
     (λ none. moves_when home g past _ _ _ _ (λ t. first_moves home g past e n act none over up (eqb-true n 0 (and_parts (e == 0) (n == 0) t).1)) (λ t. unknown_moves home g past message n))
     (λ run alive. moves_when home g past _ _ _ _ (λ t. unknown_moves home g past message n) (λ may.
     moves_when home g past _ _ _ _
@@ -240,7 +240,7 @@ unfolding of_take take_live
 take_moves home g past e n =
     let message = To.Take g e n in
     moves_when home g past _ _ _ _ (λ t. unknown_moves home g past message n) (λ over.
-    moves_pick home g past _ _ _ _ (λ none. unknown_moves home g past message n)
+    moves_given home g past _ _ _ _ (λ none. unknown_moves home g past message n)
     (λ run alive. moves_when home g past _ _ _ _ (λ t. unknown_moves home g past message n) (λ may.
     moves_when home g past _ _ _ _
     (λ t. take-next_moves home g past e n run alive (no-ticket (is_of_epoch home past e n) (has_ticket run) (n == done run) may t) (eqb-true n (done run) t))

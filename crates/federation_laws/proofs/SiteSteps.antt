@@ -31,7 +31,7 @@ use Rattle.federation_laws.proofs.SiteMoves.{Same, Ending, Says, IsSealing, Move
 use Rattle.site_history.proofs.Agreement.{live_is}
 use Rattle.site_history.proofs.MessageLines.{ended_records}
 use Rattle.commit_laws.proofs.SiteEnds.{settling-tid}
-use Rattle.federation_laws.proofs.SiteOperations.{moves_when, moves_pick}
+use Rattle.federation_laws.proofs.SiteOperations.{moves_when, moves_given}
 
 -- a record of another attempt doesn't seal this one
 pub no-seals : (tid g : Tid) (calls : List (Call SiteRecord)) → same_tid tid g ≡ false → Each (SealsOnly tid) calls → some_of (seals g) calls ≡ false
@@ -138,11 +138,11 @@ again_moves home g past e n held d =
 pub prepare_moves : (home : Home) (g : Tid) (past : SitePast) (e n : ℕ) → Moves home g past (Ev.Give (To.Prepare g e n)) (of_prepare home past g e n)
 unfolding of_prepare prepare_live seals_global
 prepare_moves home g past e n =
-    moves_pick home g past _ _ _ _
-    (λ none. moves_pick home g past _ _ _ _ (λ dead. no_moves home g past e n None)
+    moves_given home g past _ _ _ _
+    (λ none. moves_given home g past _ _ _ _ (λ dead. no_moves home g past e n None)
     (λ run alive. moves_when home g past _ _ _ _
-    (λ t. moves_pick home g past _ _ _ _ (λ no_ticket. no_moves home g past e n None)
-    (λ ticket is. moves_pick home g past _ _ _ _
+    (λ t. moves_given home g past _ _ _ _ (λ no_ticket. no_moves home g past e n None)
+    (λ ticket is. moves_given home g past _ _ _ _
     (λ free. yes_moves home g past e n run ticket alive (eqb-true e (epoch home past) (and_parts (e == epoch home past) (n == done run) t).0) (eqb-true n (done run) (and_parts (e == epoch home past) (n == done run) t).1))
     (λ why stop. refuses_moves home g past e n why)))
     (λ t. no_moves home g past e n None)))
@@ -205,8 +205,8 @@ settles_moves home g past decision =
 pub decide_moves : (home : Home) (g : Tid) (past : SitePast) (decision : Decision) → Moves home g past (Ev.Give (To.Decide g decision)) (of_decide home past g decision)
 unfolding of_decide
 decide_moves home g past decision =
-    moves_pick home g past _ _ _ _
-    (λ none. moves_pick home g past _ _ _ _ (λ dead. unheld_moves home g past decision) (λ run alive. unheld_aborts home g past decision))
+    moves_given home g past _ _ _ _
+    (λ none. moves_given home g past _ _ _ _ (λ dead. unheld_moves home g past decision) (λ run alive. unheld_aborts home g past decision))
     (λ held d. settles_moves home g past decision)
 
 -- a line without engine lines, replies and records
@@ -217,14 +217,14 @@ plain_moves home g past event answer e =
 pub ask_moves : (home : Home) (g : Tid) (past : SitePast) (tid : Tid) → Moves home g past (Ev.Ask tid) (of_ask home past tid)
 unfolding of_ask
 ask_moves home g past tid =
-    moves_pick home g past _ _ _ _ (λ none. plain_moves home g past _ _ refl)
+    moves_given home g past _ _ _ _ (λ none. plain_moves home g past _ _ refl)
     (λ held d. record { heard = refl; move = Same refl; says = (tt, tt); sealing = λ s. cc; calm = λ p. refl })
 
 pub drop_moves : (home : Home) (g : Tid) (past : SitePast) → Moves home g past (Ev.Drop g) (of_drop home past g)
 unfolding of_drop
 drop_moves home g past =
     moves_when home g past _ _ _ _ (λ t. plain_moves home g past _ _ refl) (λ t.
-    moves_pick home g past _ _ _ _ (λ none. plain_moves home g past _ _ refl)
+    moves_given home g past _ _ _ _ (λ none. plain_moves home g past _ _ refl)
     (λ run alive. record {
       heard = refl;
       move = Ending (record {

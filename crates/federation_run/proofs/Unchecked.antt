@@ -4,7 +4,7 @@ use Rattle.std.proofs.lemmas.List.{append-nil, reverse-append}
 use Rattle.mdb_base.specs.declared.acts.Step.{Step}
 use Rattle.mdb_base.specs.declared.names.Tx.{Tx}
 use Rattle.mdb_base.specs.declared.names.Tid.{Tid}
-use Rattle.mdb_base.specs.Words.{found, pick, when, with_some}
+use Rattle.mdb_base.specs.Words.{found, given, when, with_some}
 use Rattle.mdb_base.proofs.JoinLaws.{found_append}
 use Rattle.fed_rules.specs.declared.commands.Command.{Command}
 use Rattle.fed_rules.specs.declared.commands.Command.TheVariants as Cmd
@@ -23,7 +23,7 @@ use Rattle.fed_messages.specs.declared.Envelope.{Envelope}
 use Rattle.session_report.specs.declared.marks.Mark.{Mark}
 use Rattle.session_report.specs.Marks.{kept_marks, mark_of}
 use Rattle.host_laws.specs.Plans.{SitePlan}
-use Rattle.host_laws.specs.Turns.{SiteTurn, given, past_of, request_of}
+use Rattle.host_laws.specs.Turns.{SiteTurn, giving, past_of, request_of}
 use Rattle.federation_run.proofs.Untrimmed.{IsUnchecked, all_stand, line_trims_none, trimmed_same}
 
 -- the request submits no `check`
@@ -31,10 +31,10 @@ abbrev AsksNoCheck : Request SiteEvent → Type 0
 AsksNoCheck (Submits event) = IsUnchecked event
 AsksNoCheck (Declines answer) = Unit {0}
 
-asks_pick : {A : Type 0} (o : Option A) (none : Request SiteEvent) (some : A → Request SiteEvent) → AsksNoCheck none → ((z : A) → AsksNoCheck (some z)) → AsksNoCheck (pick o none some)
-unfolding pick
-asks_pick None none some p q = p
-asks_pick (Some z) none some p q = q z
+asks_given : {A : Type 0} (o : Option A) (none : Request SiteEvent) (some : A → Request SiteEvent) → AsksNoCheck none → ((z : A) → AsksNoCheck (some z)) → AsksNoCheck (given o some none)
+unfolding given
+asks_given None none some p q = p
+asks_given (Some z) none some p q = q z
 
 asks_when : (b : Bool) (x y : Request SiteEvent) → AsksNoCheck x → AsksNoCheck y → AsksNoCheck (when b x y)
 unfolding when
@@ -43,23 +43,23 @@ asks_when false x y p q = q
 
 asks_live : (home : Home) (past : SitePast) (tx : Tx) (next : Tid → Run → Request SiteEvent) → ((tid : Tid) (run : Run) → AsksNoCheck (next tid run)) → AsksNoCheck (with_live home past tx next)
 unfolding with_live
-asks_live home past tx next f = asks_when _ _ _ tt (asks_pick _ _ _ tt (λ tid. asks_pick _ _ _ tt (λ run. f tid run)))
+asks_live home past tx next f = asks_when _ _ _ tt (asks_given _ _ _ tt (λ tid. asks_given _ _ _ tt (λ run. f tid run)))
 
 asks_request : (verb : Verb) (home : Home) (steps : List Step) (past : SitePast) (tx : Tx) → AsksNoCheck (request verb home steps past tx)
 unfolding request begin_next next_step when_done
 asks_request Begin home steps past tx = asks_when _ _ _ tt tt
-asks_request Step_on home steps past tx = asks_live home past tx _ (λ tid run. asks_pick _ _ _ tt (λ step. tt))
+asks_request Step_on home steps past tx = asks_live home past tx _ (λ tid run. asks_given _ _ _ tt (λ step. tt))
 asks_request Commit home steps past tx = asks_live home past tx _ (λ tid run. asks_when _ _ _ tt tt)
 asks_request Abort home steps past tx = asks_live home past tx _ (λ tid run. tt)
 asks_request Fate home steps past tx = tt
 
 asks_own : (verb : Verb) (home : Home) (program : Option (List Step)) (past : SitePast) (tx : Tx) → AsksNoCheck (own_request verb home program past tx)
 unfolding own_request
-asks_own verb home program past tx = asks_pick _ _ _ tt (λ steps. asks_request verb home steps past tx)
+asks_own verb home program past tx = asks_given _ _ _ tt (λ steps. asks_request verb home steps past tx)
 
-asks_given : (took : Option (Envelope ToSite)) → AsksNoCheck (given took)
-asks_given None = tt
-asks_given (Some envelope) = tt
+asks_giving : (took : Option (Envelope ToSite)) → AsksNoCheck (giving took)
+asks_giving None = tt
+asks_giving (Some envelope) = tt
 
 asks_none : (plan : SitePlan) (past : SitePast) (command : Command) (took : Option (Envelope ToSite)) → AsksNoCheck (request_of plan past command took)
 asks_none plan past (Cmd.Begin tx) took = asks_own Begin plan.home (plan.programs tx) past tx
@@ -70,7 +70,7 @@ asks_none plan past (Cmd.Fate tx) took = asks_own Fate plan.home (plan.programs 
 asks_none plan past (Cmd.Go tx) took = tt
 asks_none plan past (Cmd.Again tid) took = tt
 asks_none plan past (Cmd.Late tid) took = tt
-asks_none plan past (Cmd.Give site place) took = asks_given took
+asks_none plan past (Cmd.Give site place) took = asks_giving took
 asks_none plan past (Cmd.Take site place) took = tt
 asks_none plan past (Cmd.Ask site tid) took = tt
 asks_none plan past (Cmd.Drop site tid) took = tt

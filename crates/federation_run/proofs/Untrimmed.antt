@@ -4,7 +4,7 @@ use Rattle.std.specs.Prelude.{nat_le}
 use Rattle.std.proofs.lemmas.Bool.Decides.{nat_tests}
 use Rattle.mdb_base.specs.declared.acts.PlainAct.{PlainAct}
 use Rattle.mdb_base.specs.declared.names.Tid.{Tid}
-use Rattle.mdb_base.specs.Words.{when, pick}
+use Rattle.mdb_base.specs.Words.{when, given}
 use Rattle.presumptions.specs.declared.Decision.{Decision}
 use Rattle.fed_rules.specs.declared.answers.Answer.TheVariants as Say
 use Rattle.fed_rules.specs.declared.events.SiteEvent.{SiteEvent}
@@ -53,10 +53,10 @@ none_within (suc n) (Stops other ∷ calls) cut none = none_within n calls cut n
 abbrev Trims : SiteHappening → Type 0
 Trims x = TrimNone x.calls
 
-trims_pick : {A : Type 0} (o : Option A) (none : SiteHappening) (some : A → SiteHappening) → Trims none → ((z : A) → Trims (some z)) → Trims (pick o none some)
-unfolding pick
-trims_pick None none some p q = p
-trims_pick (Some z) none some p q = q z
+trims_given : {A : Type 0} (o : Option A) (none : SiteHappening) (some : A → SiteHappening) → Trims none → ((z : A) → Trims (some z)) → Trims (given o some none)
+unfolding given
+trims_given None none some p q = p
+trims_given (Some z) none some p q = q z
 
 trims_when : (b : Bool) (x y : SiteHappening) → Trims x → Trims y → Trims (when b x y)
 unfolding when
@@ -77,16 +77,16 @@ module _ (home : Home) (past : SitePast) where
   trims_work : (t : Tid) (e n : ℕ) (act : PlainAct) → Trims (of_work home past t e n act)
   unfolding of_work work_live first_work next_work repeated unknown did
   trims_work t e n act =
-      trims_when _ _ _ tt (trims_pick _ _ _ (trims_when _ _ _ tt tt) (λ run. trims_when _ _ _ tt (trims_when _ _ _ tt (trims_when _ _ _ tt tt))))
+      trims_when _ _ _ tt (trims_given _ _ _ (trims_when _ _ _ tt tt) (λ run. trims_when _ _ _ tt (trims_when _ _ _ tt (trims_when _ _ _ tt tt))))
 
   trims_take : (t : Tid) (e n : ℕ) → Trims (of_take home past t e n)
   unfolding of_take take_live next_take repeated unknown did
-  trims_take t e n = trims_when _ _ _ tt (trims_pick _ _ _ tt (λ run. trims_when _ _ _ tt (trims_when _ _ _ tt (trims_when _ _ _ tt tt))))
+  trims_take t e n = trims_when _ _ _ tt (trims_given _ _ _ tt (λ run. trims_when _ _ _ tt (trims_when _ _ _ tt (trims_when _ _ _ tt tt))))
 
   trims_prepare : (t : Tid) (e n : ℕ) → Trims (of_prepare home past t e n)
   unfolding of_prepare prepare_live seals_global votes_again votes_no votes_yes
   trims_prepare t e n =
-      trims_pick _ _ _ (trims_pick _ _ _ tt (λ run. trims_when _ _ _ (trims_pick _ _ _ tt (λ ticket. trims_pick _ _ _ tt (λ why. tt))) tt)) (λ held. trims_when _ _ _ tt tt)
+      trims_given _ _ _ (trims_given _ _ _ tt (λ run. trims_when _ _ _ (trims_given _ _ _ tt (λ ticket. trims_given _ _ _ tt (λ why. tt))) tt)) (λ held. trims_when _ _ _ tt tt)
 
   trims_ended : (b : Bool) → TrimNone (cond b (Sync ∷ []) [])
   trims_ended true = tt
@@ -94,7 +94,7 @@ module _ (home : Home) (past : SitePast) where
 
   trims_decide : (t : Tid) (decision : Decision) → Trims (of_decide home past t decision)
   unfolding of_decide unheld settles
-  trims_decide t decision = trims_pick _ _ _ (trims_pick _ _ _ tt (λ run. tt)) (λ held. trims_ended (forces home.protocol decision))
+  trims_decide t decision = trims_given _ _ _ (trims_given _ _ _ tt (λ run. tt)) (λ held. trims_ended (forces home.protocol decision))
 
   trims_give : (message : ToSite) → Trims (of_give home past message)
   unfolding of_give
@@ -109,14 +109,14 @@ module _ (home : Home) (past : SitePast) where
 
   trims_answered : (event : SiteEvent) → IsUnchecked event → Trims (answered home past event)
   unfolding answered of_begin of_act of_commit seals_local of_abort of_fate of_ask of_drop of_back
-  trims_answered (Ev.Begin t) own = trims_pick _ _ _ (trims_pick _ _ _ tt (λ r. tt)) (λ c. tt)
-  trims_answered (Ev.Act t act) own = trims_pick _ _ _ tt (λ run. tt)
-  trims_answered (Ev.Commit t) own = trims_pick _ _ _ tt (λ run. trims_pick _ _ _ tt (λ why. tt))
-  trims_answered (Ev.Abort t) own = trims_pick _ _ _ tt (λ run. tt)
-  trims_answered (Ev.Fate tx) own = trims_pick _ _ _ (trims_pick _ _ _ tt (λ r. tt)) (λ c. tt)
+  trims_answered (Ev.Begin t) own = trims_given _ _ _ (trims_given _ _ _ tt (λ r. tt)) (λ c. tt)
+  trims_answered (Ev.Act t act) own = trims_given _ _ _ tt (λ run. tt)
+  trims_answered (Ev.Commit t) own = trims_given _ _ _ tt (λ run. trims_given _ _ _ tt (λ why. tt))
+  trims_answered (Ev.Abort t) own = trims_given _ _ _ tt (λ run. tt)
+  trims_answered (Ev.Fate tx) own = trims_given _ _ _ (trims_given _ _ _ tt (λ r. tt)) (λ c. tt)
   trims_answered (Ev.Give message) own = trims_give message
-  trims_answered (Ev.Ask t) own = trims_pick _ _ _ tt (λ held. tt)
-  trims_answered (Ev.Drop t) own = trims_when _ _ _ tt (trims_pick _ _ _ tt (λ run. tt))
+  trims_answered (Ev.Ask t) own = trims_given _ _ _ tt (λ held. tt)
+  trims_answered (Ev.Drop t) own = trims_when _ _ _ tt (trims_given _ _ _ tt (λ run. tt))
   trims_answered (Ev.Halt cut) own = tt
   trims_answered (Ev.Trip calls cut) own = tt
   trims_answered Ev.Back own = trims_back (is_torn site_frame (disk home past)) _

@@ -4,7 +4,7 @@ use Rattle.mdb_base.specs.declared.names.SiteId.{SiteId}
 use Rattle.mdb_base.specs.declared.names.Tid.{Tid}
 use Rattle.mdb_base.specs.declared.replies.Reply.{Reply}
 use Rattle.mdb_base.specs.Names.{same_site}
-use Rattle.mdb_base.specs.Words.{Each, when, pick, those}
+use Rattle.mdb_base.specs.Words.{Each, when, given, those}
 use Rattle.order_laws.specs.Chains.{In}
 use Rattle.order_laws.proofs.Lists.{bool_is}
 use Rattle.presumptions.specs.declared.Decision.{Decision}
@@ -57,10 +57,10 @@ unfolding when
 sends_when true x y p q = p refl
 sends_when false x y p q = q refl
 
-sends_pick : {A : Type 0} (o : Option A) (none : CoordHappening) (some : A → CoordHappening) → AreDecisions none.sends → ((a : A) → AreDecisions (some a).sends) → AreDecisions (pick o none some).sends
-unfolding pick
-sends_pick None none some p q = p
-sends_pick (Some a) none some p q = q a
+sends_given : {A : Type 0} (o : Option A) (none : CoordHappening) (some : A → CoordHappening) → AreDecisions none.sends → ((a : A) → AreDecisions (some a).sends) → AreDecisions (given o some none).sends
+unfolding given
+sends_given None none some p q = p
+sends_given (Some a) none some p q = q a
 
 to_each : (tid : Tid) (decision : Decision) (members : List Participant) → AreDecisions (decide_to tid decision members)
 to_each tid decision [] = tt
@@ -123,7 +123,7 @@ module _ (protocols : List Participant) (policy : Policy) (past : CoordPast) (cl
   answered_sends (Ev.Take site (From.Inquiry tid)) i = inquiry_sends site tid
   answered_sends (Ev.Again tid) i = again_sends tid
   answered_sends (Ev.Late tid) i = late_sends tid
-  answered_sends (Ev.Fate tx) i = sends_pick _ _ _ (sends_pick _ _ _ tt (λ t. tt)) (λ t. tt)
+  answered_sends (Ev.Fate tx) i = sends_given _ _ _ (sends_given _ _ _ tt (λ t. tt)) (λ t. tt)
   answered_sends (Ev.Halt cut) i = tt
   answered_sends (Ev.Trip calls cut) i = tt
   answered_sends Ev.Back i = tt

@@ -10,7 +10,7 @@ use Rattle.mdb_base.specs.declared.replies.Reply.{Reply}
 use Rattle.mdb_base.specs.declared.replies.Reply.TheVariants as Reply_is
 use Rattle.mdb_base.specs.Names.{same_site}
 use Rattle.mdb_base.specs.Programs.{is_get, next_of, plain_act}
-use Rattle.mdb_base.specs.Words.{pick, how_many, item_at}
+use Rattle.mdb_base.specs.Words.{given, how_many, item_at}
 use Rattle.fed_rules.specs.declared.messages.Due.TheVariants as Due_is
 use Rattle.fed_rules.specs.Coord.{fits, fits_act, fits_take}
 use Rattle.fed_rules.specs.CoordPast.{is_ticket, visits}
@@ -23,10 +23,10 @@ next_at reads None = None
 next_at reads (Some step) = Some (record { site = step.site; act = plain_act reads step.act })
 
 pub next_of-at : (program : List Step) (done : ℕ) (reads : List ℕ) → next_of program done reads ≡ next_at reads (item_at program done)
-unfolding pick
+unfolding given
 next_of-at program done reads = by_item (item_at program done)
   where
-    by_item : (o : Option Step) → pick o None (λ step. Some (record { site = step.site; act = plain_act reads step.act })) ≡ next_at reads o
+    by_item : (o : Option Step) → given o (λ step. Some (record { site = step.site; act = plain_act reads step.act })) None ≡ next_at reads o
     by_item None = refl
     by_item (Some step) = refl
 

@@ -5,7 +5,7 @@ use Rattle.mdb_base.specs.declared.acts.Step.{Step}
 use Rattle.mdb_base.specs.declared.names.Tid.{Tid}
 use Rattle.mdb_base.specs.declared.names.Tx.{Tx}
 use Rattle.mdb_base.specs.Names.{same_tid}
-use Rattle.mdb_base.specs.Words.{pick, some_of, when}
+use Rattle.mdb_base.specs.Words.{given, some_of, when}
 use Rattle.mdb_base.proofs.NameLaws.{same_tid-equal, same_tid-refl, tests_agree}
 use Rattle.presumptions.specs.declared.Participant.{Participant}
 use Rattle.order_laws.specs.Chains.{In}
@@ -30,20 +30,20 @@ use Rattle.coord_core.proofs.Endings.{passes_is, usual_line}
 module _ (protocols : List Participant) (policy : Policy) (program : Option (List Step)) (past : CoordPast) (tx : Tx) where
   -- one that is no global transaction
   pub go_none : program ≡ None → go_request protocols policy program past tx ≡ Declines Say.None
-  unfolding go_request pick
+  unfolding go_request given
   go_none e = rw e refl
 
   pub fate_none : program ≡ None → fate_request program tx ≡ Declines Say.None
-  unfolding fate_request pick
+  unfolding fate_request given
   fate_none e = rw e refl
 
   module _ (steps : List Step) (own : program ≡ Some steps) where
     pub fate_submits : fate_request program tx ≡ Submits (Ev.Fate tx)
-    unfolding fate_request pick
+    unfolding fate_request given
     fate_submits = rw own refl
 
     go_is : go_request protocols policy program past tx ≡ go_next protocols policy past tx steps (attempts_of past tx)
-    unfolding go_request pick
+    unfolding go_request given
     go_is = rw own refl
 
     next_spent : 32 ≤ attempts_of past tx → go_next protocols policy past tx steps (attempts_of past tx) ≡ Declines (unless_begun (coord_line protocols policy past (Ev.Go (attempt tx (attempts_of past tx)) steps)).answer)
@@ -90,26 +90,26 @@ begun_test terms past tid n made is =
     (λ e. lt-ltb _ _ (subst (λ (m : ℕ). tid.attempt < m) (sym is) (below (some_in tid (begun_tids past) e))))
 
 -- what a `go` is answered
-by_pick : {A : Type 0} (P : CoordHappening → Type 0) (o : Option A) (none : CoordHappening) (some : A → CoordHappening) → P none → ((x : A) → P (some x)) → P (pick o none some)
-unfolding pick
-by_pick P None none some n s = n
-by_pick P (Some x) none some n s = s x
+by_given : {A : Type 0} (P : CoordHappening → Type 0) (o : Option A) (none : CoordHappening) (some : A → CoordHappening) → P none → ((x : A) → P (some x)) → P (given o some none)
+unfolding given
+by_given P None none some n s = n
+by_given P (Some x) none some n s = s x
 
 module _ (terms : Terms) (past : CoordPast) (tid : Tid) (steps : List Step) where
   silent_go : (of_go terms.protocols past tid steps).calls ≡ []
   unfolding of_go
-  silent_go = by_pick (λ (x : CoordHappening). x.calls ≡ []) _ _ _ (by_pick (λ (x : CoordHappening). x.calls ≡ []) _ _ _ refl (λ running. refl)) (λ committed. refl)
+  silent_go = by_given (λ (x : CoordHappening). x.calls ≡ []) _ _ _ (by_given (λ (x : CoordHappening). x.calls ≡ []) _ _ _ refl (λ running. refl)) (λ committed. refl)
 
   go_committed : (committed : Tid) → committed_of (records past) tid.tx ≡ Some committed → (of_go terms.protocols past tid steps).answer ≡ Say.Committed committed
-  unfolding of_go pick
+  unfolding of_go given
   go_committed committed e = rw e refl
 
   go_running : (running : Tid) → committed_of (records past) tid.tx ≡ None → undecided_of past tid.tx ≡ Some running → (of_go terms.protocols past tid steps).answer ≡ Say.Running running
-  unfolding of_go pick
+  unfolding of_go given
   go_running running e f = rw (e, f) refl
 
   go_begun : committed_of (records past) tid.tx ≡ None → undecided_of past tid.tx ≡ None → (of_go terms.protocols past tid steps).answer ≡ Say.Begun tid
-  unfolding of_go pick
+  unfolding of_go given
   go_begun e f = rw (e, f) refl
 
   go_up : Passes (trip past) 0 → is_down past ≡ false → line_of terms past (Ev.Go tid steps) ≡ of_go terms.protocols past tid steps

@@ -6,7 +6,7 @@ use Rattle.mdb_base.specs.declared.acts.Step.{Step}
 use Rattle.mdb_base.specs.declared.names.SiteId.{SiteId}
 use Rattle.mdb_base.specs.declared.names.Tx.{Tx}
 use Rattle.mdb_base.specs.Words.{Each, item_at, map_some}
-use Rattle.mdb_base.proofs.OptionLaws.{some_parts, pick_some, pick_none}
+use Rattle.mdb_base.proofs.OptionLaws.{some_parts, given_some, given_none}
 use Rattle.order_laws.specs.Chains.{In}
 use Rattle.order_laws.proofs.Lists.{each_at, each_from}
 use Rattle.presumptions.specs.declared.Participant.{Participant}
@@ -61,7 +61,7 @@ global_homeless (Some line) some = no_home line.tx line.home line.program some
 -- a global transaction is local nowhere
 not_local : (scenario : Scenario) (story : Story) (verb : Verb) (tx : Tx) (none : Happened) → IsSome (global_program scenario tx) → on_local scenario story verb tx none ≡ none
 unfolding on_local
-not_local scenario story verb tx none some = pick_none (local_home scenario tx) none _ (ap (home_at scenario) (global_homeless (transaction scenario tx) some))
+not_local scenario story verb tx none some = given_none (local_home scenario tx) none _ (ap (home_at scenario) (global_homeless (transaction scenario tx) some))
 
 taken_is : (scenario : Scenario) (story : Story) (site : SiteId) (took : Option (Envelope FromSite)) (envelope : Envelope FromSite) → took ≡ Some envelope
     → coord_requested scenario story (taken_from site took) ≡ at_coordinator scenario story (Ev.Take site envelope.message)
@@ -74,7 +74,7 @@ WasTaken story command took = (site : SiteId) (place : ℕ) (envelope : Envelope
 
 take_happens : (scenario : Scenario) (story : Story) (site : SiteId) (place : ℕ) (message : FromSite) → item_at (sent_from site story) place ≡ Some message → on_take scenario story site place ≡ at_coordinator scenario story (Ev.Take site message)
 unfolding on_take
-take_happens scenario story site place message at = pick_some (item_at (sent_from site story) place) _ _ message at
+take_happens scenario story site place message at = given_some (item_at (sent_from site story) place) _ _ message at
 
 actor_happens : (scenario : Scenario) (story : Story) (actor : ℕ) (event : CoordEvent) (other : SiteEvent) → actor ≡ 0 → on_actor scenario story actor event other ≡ at_coordinator scenario story event
 unfolding on_actor

@@ -7,7 +7,7 @@ use Rattle.mdb_base.specs.declared.names.Tx.{Tx}
 use Rattle.mdb_base.specs.Names.{same_site}
 use Rattle.mdb_base.specs.Words.{Each, item_at}
 use Rattle.mdb_base.proofs.Words.{cond-true, cond-false}
-use Rattle.mdb_base.proofs.OptionLaws.{some_parts, pick_some}
+use Rattle.mdb_base.proofs.OptionLaws.{some_parts, given_some}
 use Rattle.mdb_base.proofs.NameLaws.{same_site-equal, same_site-refl}
 use Rattle.order_laws.proofs.Lists.{each_at}
 use Rattle.fed_rules.specs.declared.answers.Answer.TheVariants as Say
@@ -35,7 +35,7 @@ use Rattle.order_laws.proofs.InLaws.{slice_get-in}
 use Rattle.fed_messages.specs.declared.Envelope.{Envelope}
 use Rattle.host_laws.specs.History.{IsCommand}
 use Rattle.host_laws.specs.Plans.{SitePlan}
-use Rattle.host_laws.specs.Turns.{SiteTurn, given, request_of, sends_of, trips_of}
+use Rattle.host_laws.specs.Turns.{SiteTurn, giving, request_of, sends_of, trips_of}
 
 -- ---- transactions of the site's own
 
@@ -69,13 +69,13 @@ module _ (scenario : Scenario) (story : Story) (home : Home) (declared : home_of
   local_happens verb tx none some =
       let own = own_line home.site (transaction scenario tx) some in
       let there : local_home scenario tx ≡ Some home = ap (home_at scenario) own.home ∙ declared in
-      pick_some (local_home scenario tx) none _ home there
-      ∙ ap (requested home story) (sym (pick_some (own_programs home.site scenario.transactions tx) _ (λ steps. request verb home steps (past_of home.site story) tx) (program_of scenario tx) own.program))
+      given_some (local_home scenario tx) none _ home there
+      ∙ ap (requested home story) (sym (given_some (own_programs home.site scenario.transactions tx) _ (λ steps. request verb home steps (past_of home.site story) tx) (program_of scenario tx) own.program))
 
   -- an event of the site
   site_happens : (site : SiteId) (event : SiteEvent) → site ≡ home.site → on_site scenario story site event ≡ at_site home story event
   unfolding on_site
-  site_happens site event same = pick_some (home_of scenario site) _ _ home (ap (home_of scenario) same ∙ declared)
+  site_happens site event same = given_some (home_of scenario site) _ _ home (ap (home_of scenario) same ∙ declared)
 
   -- of the actor that it is
   own_happens : (actor : ℕ) (one : CoordEvent) (event : SiteEvent) → 1 ≤ home.site.0 → actor ≡ home.site.0 → on_actor scenario story actor one event ≡ at_site home story event
@@ -87,12 +87,12 @@ module _ (scenario : Scenario) (story : Story) (home : Home) (declared : home_of
   give_happens : (site : SiteId) (place : ℕ) (message : ToSite) → site ≡ home.site → item_at (sent_to home.site story) place ≡ Some message → on_give scenario story site place ≡ at_site home story (Ev.Give message)
   unfolding on_give
   give_happens site place message same at =
-      pick_some (item_at (sent_to site story) place) _ _ message (ap (λ (s : SiteId). item_at (sent_to s story) place) same ∙ at) ∙ site_happens site (Ev.Give message) same
+      given_some (item_at (sent_to site story) place) _ _ message (ap (λ (s : SiteId). item_at (sent_to s story) place) same ∙ at) ∙ site_happens site (Ev.Give message) same
 
 -- whatever the envelope is, what is given is its message
-given_is : (home : Home) (story : Story) (took : Option (Envelope ToSite)) (envelope : Envelope ToSite) → took ≡ Some envelope → requested home story (given took) ≡ at_site home story (Ev.Give envelope.message)
-given_is home story None envelope e = cc
-given_is home story (Some other) envelope e = ap (λ (n : Envelope ToSite). at_site home story (Ev.Give n.message)) (some_parts e)
+giving_is : (home : Home) (story : Story) (took : Option (Envelope ToSite)) (envelope : Envelope ToSite) → took ≡ Some envelope → requested home story (giving took) ≡ at_site home story (Ev.Give envelope.message)
+giving_is home story None envelope e = cc
+giving_is home story (Some other) envelope e = ap (λ (n : Envelope ToSite). at_site home story (Ev.Give n.message)) (some_parts e)
 
 module _ (scenario : Scenario) (story : Story) (plan : SitePlan) (declared : home_of scenario plan.home.site ≡ Some plan.home) (least : 1 ≤ plan.home.site.0)
     (own : plan.programs ≡ own_programs plan.home.site scenario.transactions) (stops : Each (λ (stop : StopLine). stop.actor ≡ plan.home.site.0) plan.stops) where
@@ -120,7 +120,7 @@ module _ (scenario : Scenario) (story : Story) (plan : SitePlan) (declared : hom
   command_happens turns (Cmd.Give site place) took is sent =
       let given = is.1 in
       let at = sent place given.envelope (ap (λ (s : SiteId). Cmd.Give s place) is.0) given.is given.place_is in
-      give_happens scenario story home declared site place given.envelope.message is.0 at ∙ sym (given_is home story took given.envelope given.is)
+      give_happens scenario story home declared site place given.envelope.message is.0 at ∙ sym (giving_is home story took given.envelope given.is)
   command_happens turns (Cmd.Ask site tid) took is sent = site_happens scenario story home declared site (Ev.Ask tid) is.0
   command_happens turns (Cmd.Trip actor calls cut) took is sent =
       let actor_is = each_at (λ (stop : StopLine). stop.actor ≡ plan.home.site.0) _ plan.stops stops (slice_get-in plan.stops (trips_of turns) _ is.0) in

@@ -6,7 +6,7 @@ use Rattle.mdb_base.specs.declared.acts.Step.{Step}
 use Rattle.mdb_base.specs.declared.names.Tid.{Tid}
 use Rattle.mdb_base.specs.declared.names.Tx.{Tx}
 use Rattle.mdb_base.specs.Words.{Each, map_some, with_some}
-use Rattle.mdb_base.proofs.OptionLaws.{by_pick}
+use Rattle.mdb_base.proofs.OptionLaws.{by_given}
 use Rattle.coord_laws.proofs.Made.{Begins}
 use Rattle.coord_laws.proofs.MadeLines.{coord_made}
 use Rattle.fed_rules.specs.Terms.{Terms, line_of}
@@ -53,7 +53,7 @@ module _ (plan : CoordPlan) (are : AreNamed plan.programs) where
 
   go_goes : (past : CoordPast) (tx : Tx) → RequestGoes (go_request plan.terms.protocols plan.terms.policy (plan.programs tx) past tx)
   unfolding go_request
-  go_goes past tx = by_pick RequestGoes (plan.programs tx) _ _ tt (λ steps e. next_goes past tx steps (attempts_of past tx) (are tx (is_some_of (plan.programs tx) steps e)))
+  go_goes past tx = by_given RequestGoes (plan.programs tx) _ _ tt (λ steps e. next_goes past tx steps (attempts_of past tx) (are tx (is_some_of (plan.programs tx) steps e)))
     where
       is_some_of : (o : Option (List Step)) (steps : List Step) → o ≡ Some steps → IsSome o
       is_some_of None steps e = cc
@@ -61,7 +61,7 @@ module _ (plan : CoordPlan) (are : AreNamed plan.programs) where
 
   fate_goes : (tx : Tx) → RequestGoes (fate_request (plan.programs tx) tx)
   unfolding fate_request
-  fate_goes tx = by_pick RequestGoes (plan.programs tx) _ _ tt (λ steps e. tt)
+  fate_goes tx = by_given RequestGoes (plan.programs tx) _ _ tt (λ steps e. tt)
 
   attempt_goes : (past : CoordPast) (tid : Tid) (event : CoordEvent) → Goes event → RequestGoes (attempt_request past tid event)
   unfolding attempt_request

@@ -14,7 +14,7 @@ use Rattle.mdb_base.specs.Words.{Each, found, when, with_some}
 use Rattle.mdb_base.proofs.ListLaws.{append_each, each_all, each_inserted}
 use Rattle.mdb_base.proofs.NameLaws.{same_tid-equal}
 use Rattle.mdb_base.proofs.EachLaws.{each_of_mapped, each_take}
-use Rattle.mdb_base.proofs.OptionLaws.{by_pick}
+use Rattle.mdb_base.proofs.OptionLaws.{by_given}
 use Rattle.presumptions.specs.declared.Decision.{Decision}
 use Rattle.presumptions.specs.declared.Decision.TheVariants as Decided
 use Rattle.presumptions.specs.Table.{acks, forces}
@@ -311,27 +311,27 @@ module _ (N : Tid → Type 0) where
 
     begin_names : (tid : Tid) → N tid → Names (of_begin home past tid)
     unfolding of_begin
-    begin_names tid h = by_pick Names _ _ _ (by_pick Names _ _ _ (one_line _ _ _ h) (λ r e. still _ _)) (λ c e. still _ _)
+    begin_names tid h = by_given Names _ _ _ (by_given Names _ _ _ (one_line _ _ _ h) (λ r e. still _ _)) (λ c e. still _ _)
 
     act_names : (tid : Tid) (act : PlainAct) → N tid → Names (of_act home past tid act)
     unfolding of_act
-    act_names tid act h = by_pick Names _ _ _ (still _ _) (λ run e. one_line _ _ _ h)
+    act_names tid act h = by_given Names _ _ _ (still _ _) (λ run e. one_line _ _ _ h)
 
     commit_names : (tid : Tid) → N tid → Names (of_commit home past tid)
     unfolding of_commit seals_local
-    commit_names tid h = by_pick Names _ _ _ (still _ _) (λ run e. by_pick Names _ _ _ (record { sends = tt; calls = (tt, (tt, tt)); lines = (h, (h, tt)) }) (λ why f. one_line _ _ _ h))
+    commit_names tid h = by_given Names _ _ _ (still _ _) (λ run e. by_given Names _ _ _ (record { sends = tt; calls = (tt, (tt, tt)); lines = (h, (h, tt)) }) (λ why f. one_line _ _ _ h))
 
     abort_names : (tid : Tid) → N tid → Names (of_abort home past tid)
     unfolding of_abort
-    abort_names tid h = by_pick Names _ _ _ (still _ _) (λ run e. one_line _ _ _ h)
+    abort_names tid h = by_given Names _ _ _ (still _ _) (λ run e. one_line _ _ _ h)
 
     fate_names : (tx : Tx) → Names (of_fate home past tx)
     unfolding of_fate
-    fate_names tx = by_pick Names _ _ _ (by_pick Names _ _ _ (still _ _) (λ r e. still _ _)) (λ c e. still _ _)
+    fate_names tx = by_given Names _ _ _ (by_given Names _ _ _ (still _ _) (λ r e. still _ _)) (λ c e. still _ _)
 
     drop_names : (tid : Tid) → N tid → Names (of_drop home past tid)
     unfolding of_drop
-    drop_names tid h = by_when Names _ _ _ (λ e. still _ _) (λ e. by_pick Names _ _ _ (still _ _) (λ run f. one_line _ _ _ h))
+    drop_names tid h = by_when Names _ _ _ (λ e. still _ _) (λ e. by_given Names _ _ _ (still _ _) (λ run f. one_line _ _ _ h))
 
     check_names : Names (of_check home past)
     unfolding of_check
@@ -348,7 +348,7 @@ module _ (N : Tid → Type 0) where
     ask_names : (tid : Tid) → Names (of_ask home past tid)
     unfolding of_ask
     ask_names tid =
-        by_pick Names (doubt_of (records home past) tid) _ _ (still _ _)
+        by_given Names (doubt_of (records home past) tid) _ _ (still _ _)
         (λ held e. record { sends = ((subst (MayHold tid) e (doubt_names (records home past) tid (records_names home past named))).1, tt); calls = tt; lines = tt })
 
     module _ (message : ToSite) (tid : Tid) (h : N tid) where
@@ -388,13 +388,13 @@ module _ (N : Tid → Type 0) where
     of_work_names tid e n act h =
         let m = To.Work tid e n act in
         by_when Names _ _ _ (λ f. unknown_names m tid h n)
-        (λ f. by_pick Names _ _ _ (by_when Names _ _ _ (λ g. first_names m tid h n act) (λ g. unknown_names m tid h n)) (λ run g. work_names m tid h e n act run))
+        (λ f. by_given Names _ _ _ (by_when Names _ _ _ (λ g. first_names m tid h n act) (λ g. unknown_names m tid h n)) (λ run g. work_names m tid h e n act run))
 
     of_take_names : (tid : Tid) (e n : ℕ) → N tid → Names (of_take home past tid e n)
     unfolding of_take
     of_take_names tid e n h =
         let m = To.Take tid e n in
-        by_when Names _ _ _ (λ f. unknown_names m tid h n) (λ f. by_pick Names _ _ _ (unknown_names m tid h n) (λ run g. take_names m tid h e n run))
+        by_when Names _ _ _ (λ f. unknown_names m tid h n) (λ f. by_given Names _ _ _ (unknown_names m tid h n) (λ run g. take_names m tid h e n run))
 
     no_names : (tid : Tid) (e n : ℕ) (why : Option Why) (lines : List EngineLine) → N tid → Each LineNames lines → Names (votes_no tid e n why lines)
     unfolding votes_no
@@ -411,10 +411,10 @@ module _ (N : Tid → Type 0) where
     of_prepare_names : (tid : Tid) (e n : ℕ) → N tid → Names (of_prepare home past tid e n)
     unfolding of_prepare prepare_live seals_global
     of_prepare_names tid e n h =
-        by_pick Names _ _ _
-        (by_pick Names _ _ _ (no_names tid e n _ _ h tt)
+        by_given Names _ _ _
+        (by_given Names _ _ _ (no_names tid e n _ _ h tt)
         (λ run f. by_when Names _ _ _
-        (λ g. by_pick Names _ _ _ (no_names tid e n _ _ h tt) (λ ticket i. by_pick Names _ _ _ (yes_names tid e n run ticket h) (λ why j. no_names tid e n _ _ h (h, tt))))
+        (λ g. by_given Names _ _ _ (no_names tid e n _ _ h tt) (λ ticket i. by_given Names _ _ _ (yes_names tid e n run ticket h) (λ why j. no_names tid e n _ _ h (h, tt))))
         (λ g. no_names tid e n _ _ h tt)))
         (λ held f. by_when Names _ _ _ (λ g. again_names tid e n held h) (λ g. no_names tid e n _ _ h tt))
 
@@ -439,8 +439,8 @@ module _ (N : Tid → Type 0) where
     of_decide_names : (tid : Tid) (decision : Decision) → N tid → Names (of_decide home past tid decision)
     unfolding of_decide settles unheld
     of_decide_names tid decision h =
-        by_pick Names _ _ _
-        (by_pick Names _ _ _ (record { sends = ack_names tid decision h; calls = tt; lines = tt }) (λ run e. record { sends = ack_names tid decision h; calls = tt; lines = (h, tt) }))
+        by_given Names _ _ _
+        (by_given Names _ _ _ (record { sends = ack_names tid decision h; calls = tt; lines = tt }) (λ run e. record { sends = ack_names tid decision h; calls = tt; lines = (h, tt) }))
         (λ held e. record { sends = ack_names tid decision h; calls = ended_names tid decision; lines = (settling_names tid decision h, tt) })
 
     give_names : (message : ToSite) → N (about message) → Names (of_give home past message)

@@ -15,7 +15,7 @@ use Rattle.mdb_base.specs.Names.{same_tx}
 use Rattle.mdb_base.specs.Words.{Each, first_where, found, map_some, with_some}
 use Rattle.mdb_base.proofs.ListLaws.{append_each}
 use Rattle.mdb_base.proofs.NameLaws.{same_tx-equal}
-use Rattle.mdb_base.proofs.OptionLaws.{by_pick}
+use Rattle.mdb_base.proofs.OptionLaws.{by_given}
 use Rattle.order_laws.proofs.Lists.{each_of_at, first_where_some}
 use Rattle.field_bytes.specs.Fields.{IsTid}
 use Rattle.fed_rules.specs.declared.commands.Command.{Command}
@@ -80,7 +80,7 @@ module _ (home : Home) (past : SitePast) (named : NamesAll IsTid past) where
   unfolding with_live
   with_live_names tx next h =
       by_when RequestNames _ _ _ (λ e. tt)
-      (λ e. by_pick RequestNames (live_of_tx home past tx) _ _ tt (λ tid f. by_pick RequestNames _ _ _ tt (λ run g. h tid run (live_named tx tid f))))
+      (λ e. by_given RequestNames (live_of_tx home past tx) _ _ tt (λ tid f. by_given RequestNames _ _ _ tt (λ run g. h tid run (live_named tx tid f))))
 
   begin_request : (tx : Tx) (n : ℕ) → (1 ≤ tx.0) × (tx.0 ≤ 1024) → RequestNames (begin_next home past tx n)
   unfolding begin_next
@@ -88,7 +88,7 @@ module _ (home : Home) (past : SitePast) (named : NamesAll IsTid past) where
 
   step_request : (steps : List Step) (tid : Tid) (run : Run) → IsTid tid → RequestNames (next_step steps tid run)
   unfolding next_step
-  step_request steps tid run h = by_pick RequestNames _ _ _ tt (λ step e. h)
+  step_request steps tid run h = by_given RequestNames _ _ _ tt (λ step e. h)
 
   commit_request : (steps : List Step) (tid : Tid) (run : Run) → IsTid tid → RequestNames (when_done steps tid run)
   unfolding when_done
@@ -104,7 +104,7 @@ module _ (home : Home) (past : SitePast) (named : NamesAll IsTid past) where
 
   own_names : (verb : Verb) (programs : OwnPrograms) (tx : Tx) → AreNamed programs → RequestNames (own_request verb home (programs tx) past tx)
   unfolding own_request
-  own_names verb programs tx are = by_pick RequestNames (programs tx) _ _ tt (λ steps e. verb_names verb steps tx (are tx (is_some_of (programs tx) steps e)))
+  own_names verb programs tx are = by_given RequestNames (programs tx) _ _ tt (λ steps e. verb_names verb steps tx (are tx (is_some_of (programs tx) steps e)))
     where
       is_some_of : (o : Option (List Step)) (steps : List Step) → o ≡ Some steps → IsSome o
       is_some_of None steps e = cc

@@ -27,9 +27,9 @@ pub record SiteTurn : Type 0 where
   pub took : Option (Envelope ToSite)
 
 -- what is given of the envelope that a line takes
-abbrev pub given : Option (Envelope ToSite) → Request SiteEvent
-given None = Declines Say.None
-given (Some envelope) = Submits (Ev.Give envelope.message)
+abbrev pub giving : Option (Envelope ToSite) → Request SiteEvent
+giving None = Declines Say.None
+giving (Some envelope) = Submits (Ev.Give envelope.message)
 
 -- what the site makes of a command of its host; a host has no other commands than these
 abbrev pub request_of : SitePlan → SitePast → Command → Option (Envelope ToSite) → Request SiteEvent
@@ -38,7 +38,7 @@ request_of plan past (Cmd.Step tx) took = own_request Rule.Step_on plan.home (pl
 request_of plan past (Cmd.Commit tx) took = own_request Rule.Commit plan.home (plan.programs tx) past tx
 request_of plan past (Cmd.Abort tx) took = own_request Rule.Abort plan.home (plan.programs tx) past tx
 request_of plan past (Cmd.Fate tx) took = own_request Rule.Fate plan.home (plan.programs tx) past tx
-request_of plan past (Cmd.Give site place) took = given took
+request_of plan past (Cmd.Give site place) took = giving took
 request_of plan past (Cmd.Ask site tid) took = Submits (Ev.Ask tid)
 request_of plan past (Cmd.Trip actor calls cut) took = Submits (Ev.Trip calls cut)
 request_of plan past (Cmd.Back actor) took = Submits Ev.Back

@@ -4,7 +4,7 @@ use Rattle.std.proofs.lemmas.Bool.{cases_lt}
 use Rattle.mdb_base.specs.declared.names.SiteId.{SiteId}
 use Rattle.mdb_base.specs.declared.names.Tid.{Tid}
 use Rattle.mdb_base.specs.Names.{same_site, same_tid, tid_before}
-use Rattle.mdb_base.specs.Words.{Each, pick}
+use Rattle.mdb_base.specs.Words.{Each, given}
 use Rattle.mdb_base.proofs.JoinLaws.{length-append}
 use Rattle.mdb_base.proofs.ListLaws.{each_map}
 use Rattle.mdb_base.proofs.NameLaws.{same_site-equal, same_site-refl}
@@ -122,12 +122,12 @@ module _ (disks : List Seen) (scenario : Scenario) where
 
   halts_site : (story : Story) (n cut : ℕ) (home : Home) → home_of scenario (record { 0 = suc n }) ≡ Some home
       → happens scenario story (Cmd.Halt (suc n) cut) ≡ AtSite home.site (site_line home (past_of home.site story) (Site_event.Halt cut))
-  unfolding happens on_actor on_site pick
-  halts_site story n cut home declared = ap (λ (o : Option Home). pick o (Nowhere Say.None) (λ home. at_site home story (Site_event.Halt cut))) declared
+  unfolding happens on_actor on_site given
+  halts_site story n cut home declared = ap (λ (o : Option Home). given o (λ home. at_site home story (Site_event.Halt cut)) (Nowhere Say.None)) declared
 
   halts_nobody : (story : Story) (n cut : ℕ) → home_of scenario (record { 0 = suc n }) ≡ None → happens scenario story (Cmd.Halt (suc n) cut) ≡ Nowhere Say.None
-  unfolding happens on_actor on_site pick
-  halts_nobody story n cut none = ap (λ (o : Option Home). pick o (Nowhere Say.None) (λ home. at_site home story (Site_event.Halt cut))) none
+  unfolding happens on_actor on_site given
+  halts_nobody story n cut none = ap (λ (o : Option Home). given o (λ home. at_site home story (Site_event.Halt cut)) (Nowhere Say.None)) none
 
   module _ (story : Story) (n cut : ℕ) (home : Home) (declared : home_of scenario (record { 0 = suc n }) ≡ Some home) (x : SiteHappening) (h : SiteHalted home (past_of home.site story) x) where
     abbrev new : Story

@@ -7,7 +7,7 @@ use Rattle.mdb_base.specs.declared.names.SiteId.{SiteId}
 use Rattle.mdb_base.specs.declared.names.Tid.{Tid}
 use Rattle.mdb_base.specs.declared.names.Tx.{Tx}
 use Rattle.mdb_base.specs.Names.{same_site, same_tid}
-use Rattle.mdb_base.specs.Words.{Each, each_of, pick, when}
+use Rattle.mdb_base.specs.Words.{Each, each_of, given, when}
 use Rattle.mdb_base.proofs.NameLaws.{same_site-equal, same_tid-equal, same_tid-refl}
 use Rattle.order_laws.specs.Chains.{In}
 use Rattle.order_laws.specs.Search.{cycle_through}
@@ -100,10 +100,10 @@ module _ (protocols : List Participant) (past : CoordPast) (ready : (g : Tid) �
   when_good command true x y p q = p refl
   when_good command false x y p q = q refl
 
-  pick_good : {A : Type 0} (command : Command) (o : Option A) (x : CoordHappening) (f : A → CoordHappening) → (o ≡ None → CoordGood protocols past ready sorted command x) → ((a : A) → o ≡ Some a → CoordGood protocols past ready sorted command (f a)) → CoordGood protocols past ready sorted command (pick o x f)
-  unfolding pick
-  pick_good command None x f p q = p refl
-  pick_good command (Some a) x f p q = q a refl
+  given_good : {A : Type 0} (command : Command) (o : Option A) (x : CoordHappening) (f : A → CoordHappening) → (o ≡ None → CoordGood protocols past ready sorted command x) → ((a : A) → o ≡ Some a → CoordGood protocols past ready sorted command (f a)) → CoordGood protocols past ready sorted command (given o f x)
+  unfolding given
+  given_good command None x f p q = p refl
+  given_good command (Some a) x f p q = q a refl
 
   yes_good : (site : SiteId) (t : Tid) (k : ℕ) (place : ℕ) → vote_counts past site t ≡ true → CoordGood protocols past ready sorted (Cmd.Take site place) (yes_vote protocols past (Ev.Take site (From.Vote t (Some k))) t)
   unfolding yes_vote last_vote
@@ -113,7 +113,7 @@ module _ (protocols : List Participant) (past : CoordPast) (ready : (g : Tid) �
       let members = participants protocols past t in
       let tickets = vote_tickets voted t members in
       when_good (Cmd.Take site place) (all_voted voted t members) _ _
-      (λ all. pick_good (Cmd.Take site place) (cycle_through edge_between (record { tid = t; tickets = tickets }) (commits (records past))) _ _
+      (λ all. given_good (Cmd.Take site place) (cycle_through edge_between (record { tid = t; tickets = tickets }) (commits (records past))) _ _
       (λ none. commits_good protocols past ready sorted (Cmd.Take site place) event t tickets (vote_of protocols past ready sorted site t (Some k)) (λ f. refl) (λ f. refl))
       (λ edges found. aborts_good protocols past ready sorted (Cmd.Take site place) event t (For.Cycle edges) (vote_of protocols past ready sorted site t (Some k)) (λ f. found_cycle (commits (records past)) _ _ edges found) (λ f. refl)))
       (λ some. voted_good site t k place c some)
@@ -171,8 +171,8 @@ module _ (protocols : List Participant) (past : CoordPast) (ready : (g : Tid) �
   go_good : (t : Tid) (steps : List Step) (tx : Tx) → IsSited steps → CoordGood protocols past ready sorted (Cmd.Go tx) (of_go protocols past t steps)
   unfolding of_go
   go_good t steps tx sited =
-      pick_good (Cmd.Go tx) (committed_of (records past) t.tx) _ _
-      (λ none. pick_good (Cmd.Go tx) (undecided_of past t.tx) _ _ (λ free. begun)
+      given_good (Cmd.Go tx) (committed_of (records past) t.tx) _ _
+      (λ none. given_good (Cmd.Go tx) (undecided_of past t.tx) _ _ (λ free. begun)
       (λ running q. record { answer = refl; some = λ n. refl; rises = tt; can = inl refl; next = λ g o. ready g (same_either (same_tid t g) (is_open past g) o) }))
       (λ committed q. record { answer = refl; some = λ n. refl; rises = tt; can = inl refl; next = λ g o. ready g (same_either (same_tid t g) (is_open past g) o) })
     where
@@ -223,8 +223,8 @@ module _ (protocols : List Participant) (past : CoordPast) (ready : (g : Tid) �
   fate_good : (tx other : Tx) → CoordGood protocols past ready sorted (Cmd.Fate other) (of_fate past tx)
   unfolding of_fate
   fate_good tx other =
-      pick_good (Cmd.Fate other) (committed_of (records past) tx) _ _
-      (λ none. pick_good (Cmd.Fate other) (undecided_of past tx) _ _ (λ free. by_count (attempts_of past tx == 0))
+      given_good (Cmd.Fate other) (committed_of (records past) tx) _ _
+      (λ none. given_good (Cmd.Fate other) (undecided_of past tx) _ _ (λ free. by_count (attempts_of past tx == 0))
       (λ running q. record { answer = refl; some = λ n. refl; rises = tt; can = inl refl; next = λ g o. ready g o }))
       (λ committed q. record { answer = refl; some = λ n. refl; rises = tt; can = inl refl; next = λ g o. ready g o })
     where
@@ -261,18 +261,18 @@ module _ (protocols : List Participant) (past : CoordPast) (ready : (g : Tid) �
               let none = ap (λ (cs : List (Call CoordRecord)). length cs) still in absurd (omega (arith, some, le, none)))
           by_test false q = good
 
-  still_pick : {A : Type 0} (o : Option A) (x : CoordHappening) (f : A → CoordHappening) → x.calls ≡ [] → ((a : A) → (f a).calls ≡ []) → (pick o x f).calls ≡ []
-  unfolding pick
-  still_pick None x f p q = p
-  still_pick (Some a) x f p q = q a
+  still_given : {A : Type 0} (o : Option A) (x : CoordHappening) (f : A → CoordHappening) → x.calls ≡ [] → ((a : A) → (f a).calls ≡ []) → (given o f x).calls ≡ []
+  unfolding given
+  still_given None x f p q = p
+  still_given (Some a) x f p q = q a
 
   go_still : (t : Tid) (steps : List Step) → (of_go protocols past t steps).calls ≡ []
   unfolding of_go
-  go_still t steps = still_pick (committed_of (records past) t.tx) _ _ (still_pick (undecided_of past t.tx) _ _ refl (λ r. refl)) (λ c. refl)
+  go_still t steps = still_given (committed_of (records past) t.tx) _ _ (still_given (undecided_of past t.tx) _ _ refl (λ r. refl)) (λ c. refl)
 
   fate_still : (tx : Tx) → (of_fate past tx).calls ≡ []
   unfolding of_fate
-  fate_still tx = still_pick (committed_of (records past) tx) _ _ (still_pick (undecided_of past tx) _ _ refl (λ r. refl)) (λ c. refl)
+  fate_still tx = still_given (committed_of (records past) tx) _ _ (still_given (undecided_of past tx) _ _ refl (λ r. refl)) (λ c. refl)
 
   up_good : (policy : Policy) (command : Command) (event : CoordEvent) → answer_fits command Say.Down ≡ true → CoordGood protocols past ready sorted command (unless_tripped past (answered protocols policy past event))
       → CoordGood protocols past ready sorted command (when (is_down past) (quiet event Say.Down) (unless_tripped past (answered protocols policy past event)))

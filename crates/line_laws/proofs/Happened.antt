@@ -6,7 +6,7 @@ use Rattle.mdb_base.specs.declared.names.SiteId.{SiteId}
 use Rattle.mdb_base.specs.declared.names.Tid.{Tid}
 use Rattle.mdb_base.specs.declared.names.Tx.{Tx}
 use Rattle.mdb_base.specs.Names.{same_site}
-use Rattle.mdb_base.specs.Words.{item_at, pick, when}
+use Rattle.mdb_base.specs.Words.{given, item_at, when}
 use Rattle.presumptions.specs.declared.Participant.{Participant}
 use Rattle.fed_rules.specs.declared.answers.Answer.{Answer}
 use Rattle.fed_rules.specs.declared.answers.Answer.TheVariants as Say
@@ -174,10 +174,10 @@ module _ (session : Session) (start : Starts session) (commands : List Command) 
   pub record Word (command : Command) (h : Happened) : Type 0 where
     pub word : Unheard command h
 
-  word_pick : {A : Type 0} (command : Command) (o : Option A) (none : Happened) (some : A → Happened) → (o ≡ None → Word command none) → ((a : A) → o ≡ Some a → Word command (some a)) → Word command (pick o none some)
-  unfolding pick
-  word_pick command None none some p q = p refl
-  word_pick command (Some a) none some p q = q a refl
+  word_given : {A : Type 0} (command : Command) (o : Option A) (none : Happened) (some : A → Happened) → (o ≡ None → Word command none) → ((a : A) → o ≡ Some a → Word command (some a)) → Word command (given o some none)
+  unfolding given
+  word_given command None none some p q = p refl
+  word_given command (Some a) none some p q = q a refl
 
   pub said : (command : Command) (answer : Answer) → answer_fits command answer ≡ true → is_only answer ≡ false → Word command (Nowhere answer)
   said command answer f o = record { word = record { fits = f; other = o } }
@@ -191,10 +191,10 @@ module _ (session : Session) (start : Starts session) (commands : List Command) 
   asked_when command home true r s p q = p
   asked_when command home false r s p q = q
 
-  asked_pick : {A : Type 0} (command : Command) (home : Home) (o : Option A) (r : Request SiteEvent) (f : A → Request SiteEvent) → Asked command home r → ((a : A) → Asked command home (f a)) → Asked command home (pick o r f)
-  unfolding pick
-  asked_pick command home None r f p q = p
-  asked_pick command home (Some a) r f p q = q a
+  asked_given : {A : Type 0} (command : Command) (home : Home) (o : Option A) (r : Request SiteEvent) (f : A → Request SiteEvent) → Asked command home r → ((a : A) → Asked command home (f a)) → Asked command home (given o f r)
+  unfolding given
+  asked_given command home None r f p q = p
+  asked_given command home (Some a) r f p q = q a
 
   declines : (command : Command) (home : Home) (answer : Answer) → answer_fits command answer ≡ true → is_only answer ≡ false → Asked command home (Declines answer)
   declines command home answer f o = record { asked = said command answer f o }
@@ -223,11 +223,11 @@ module _ (session : Session) (start : Starts session) (commands : List Command) 
   unfolding with_live
   live_asked command home tx next down idle f =
       asked_when command home _ _ _ (declines command home Say.Down down refl)
-      (asked_pick command home _ _ _ (declines command home Say.Idle idle refl) (λ tid. asked_pick command home _ _ _ (declines command home Say.Idle idle refl) (λ run. f tid run)))
+      (asked_given command home _ _ _ (declines command home Say.Idle idle refl) (λ tid. asked_given command home _ _ _ (declines command home Say.Idle idle refl) (λ run. f tid run)))
 
   step_asked : (home : Home) (steps : List Step) (tx : Tx) (tid : Tid) (run : Run) → Asked (Cmd.Step tx) home (next_step steps tid run)
   unfolding next_step
-  step_asked home steps tx tid run = asked_pick (Cmd.Step tx) home _ _ _ (declines (Cmd.Step tx) home Say.End refl refl) (λ step. submits (Cmd.Step tx) home _)
+  step_asked home steps tx tid run = asked_given (Cmd.Step tx) home _ _ _ (declines (Cmd.Step tx) home Say.End refl refl) (λ step. submits (Cmd.Step tx) home _)
 
   commit_asked : (home : Home) (steps : List Step) (tx : Tx) (tid : Tid) (run : Run) → Asked (Cmd.Commit tx) home (when_done steps tid run)
   unfolding when_done
@@ -251,7 +251,7 @@ module _ (session : Session) (start : Starts session) (commands : List Command) 
   local_word : (verb : Verb) (tx : Tx) (other : Happened) → Word (command_of verb tx) other → Word (command_of verb tx) (on_local plan story verb tx other)
   unfolding on_local
   local_word verb tx other w =
-      word_pick (command_of verb tx) (local_home plan tx) _ _ (λ e. w) (λ home e. (verb_asked verb home (program_of plan tx) tx (local-declared plan tx home e)).asked)
+      word_given (command_of verb tx) (local_home plan tx) _ _ (λ e. w) (λ home e. (verb_asked verb home (program_of plan tx) tx (local-declared plan tx home e)).asked)
 
   -- a request of the coordinator
   record CoordAsked (command : Command) (r : Request CoordEvent) : Type 0 where
@@ -262,10 +262,10 @@ module _ (session : Session) (start : Starts session) (commands : List Command) 
   coord_when command true r s p q = p
   coord_when command false r s p q = q
 
-  coord_pick : {A : Type 0} (command : Command) (o : Option A) (r : Request CoordEvent) (f : A → Request CoordEvent) → CoordAsked command r → ((a : A) → o ≡ Some a → CoordAsked command (f a)) → CoordAsked command (pick o r f)
-  unfolding pick
-  coord_pick command None r f p q = p
-  coord_pick command (Some a) r f p q = q a refl
+  coord_given : {A : Type 0} (command : Command) (o : Option A) (r : Request CoordEvent) (f : A → Request CoordEvent) → CoordAsked command r → ((a : A) → o ≡ Some a → CoordAsked command (f a)) → CoordAsked command (given o f r)
+  unfolding given
+  coord_given command None r f p q = p
+  coord_given command (Some a) r f p q = q a refl
 
   coord_declines : (command : Command) (answer : Answer) → answer_fits command answer ≡ true → is_only answer ≡ false → CoordAsked command (Declines answer)
   coord_declines command answer f o = record { asked = said command answer f o }
@@ -282,12 +282,12 @@ module _ (session : Session) (start : Starts session) (commands : List Command) 
 
   go_word : (tx : Tx) → Word (Cmd.Go tx) (on_go plan story tx)
   unfolding on_go go_request
-  go_word tx = (coord_pick (Cmd.Go tx) (global_program plan tx) _ _ (coord_declines (Cmd.Go tx) Say.None refl refl) (λ steps e. next_asked tx steps _ e)).asked
+  go_word tx = (coord_given (Cmd.Go tx) (global_program plan tx) _ _ (coord_declines (Cmd.Go tx) Say.None refl refl) (λ steps e. next_asked tx steps _ e)).asked
 
   fate_word : (tx : Tx) → Word (Cmd.Fate tx) (on_fate plan story tx)
   unfolding on_fate fate_request
   fate_word tx =
-      local_word Fate tx _ (coord_pick (Cmd.Fate tx) (global_program plan tx) _ _ (coord_declines (Cmd.Fate tx) Say.None refl refl) (λ steps e. coord_submits (Cmd.Fate tx) _)).asked
+      local_word Fate tx _ (coord_given (Cmd.Fate tx) (global_program plan tx) _ _ (coord_declines (Cmd.Fate tx) Say.None refl refl) (λ steps e. coord_submits (Cmd.Fate tx) _)).asked
 
   attempt_word : (command : Command) (tid : Tid) (event : CoordEvent) → answer_fits command Say.None ≡ true → Word command (on_attempt plan story tid event)
   unfolding on_attempt attempt_request
@@ -295,15 +295,15 @@ module _ (session : Session) (start : Starts session) (commands : List Command) 
 
   site_word : (command : Command) (site : SiteId) (event : SiteEvent) → (home_of plan site ≡ None → answer_fits command Say.None ≡ true) → Word command (on_site plan story site event)
   unfolding on_site
-  site_word command site event f = word_pick command (home_of plan site) _ _ (λ e. said command Say.None (f e) refl) (λ home e. record { word = tt })
+  site_word command site event f = word_given command (home_of plan site) _ _ (λ e. said command Say.None (f e) refl) (λ home e. record { word = tt })
 
   give_word : (site : SiteId) (place : ℕ) → Word (Cmd.Give site place) (on_give plan story site place)
   unfolding on_give
-  give_word site place = word_pick (Cmd.Give site place) (item_at (sent_to site story) place) _ _ (λ e. said (Cmd.Give site place) Say.None refl refl) (λ message e. site_word (Cmd.Give site place) site _ (λ n. refl))
+  give_word site place = word_given (Cmd.Give site place) (item_at (sent_to site story) place) _ _ (λ e. said (Cmd.Give site place) Say.None refl refl) (λ message e. site_word (Cmd.Give site place) site _ (λ n. refl))
 
   take_word : (site : SiteId) (place : ℕ) → Word (Cmd.Take site place) (on_take plan story site place)
   unfolding on_take
-  take_word site place = word_pick (Cmd.Take site place) (item_at (sent_from site story) place) _ _ (λ e. said (Cmd.Take site place) Say.None refl refl) (λ message e. record { word = tt })
+  take_word site place = word_given (Cmd.Take site place) (item_at (sent_from site story) place) _ _ (λ e. said (Cmd.Take site place) Say.None refl refl) (λ message e. record { word = tt })
 
   heard_site : (command : Command) (site : SiteId) → is_declared plan.sites site ≡ true → home_of plan site ≡ None → answer_fits command Say.None ≡ true
   heard_site command site d none = absurd (declared_home plan.sites plan.items site d none)

@@ -11,7 +11,7 @@ use Rattle.mdb_base.specs.declared.replies.Reply.TheVariants as Reply_is
 use Rattle.mdb_base.specs.declared.replies.Why.{Why}
 use Rattle.mdb_base.specs.declared.replies.Why.TheVariants as Because
 use Rattle.mdb_base.proofs.BoolLaws.{when_either}
-use Rattle.mdb_base.proofs.OptionLaws.{by_pick}
+use Rattle.mdb_base.proofs.OptionLaws.{by_given}
 use Rattle.presumptions.specs.declared.Decision.{Decision}
 use Rattle.fed_rules.specs.declared.answers.Answer.TheVariants as Say
 use Rattle.fed_rules.specs.declared.commands.Command.{Command}
@@ -59,8 +59,8 @@ stopped_fits command site home past x stop q = by_trip (trip past)
 begin_still : (home : Home) (past : SitePast) (tid : Tid) (tx : Tx) (site : SiteId) → IsStill (Cmd.Begin tx) site (of_begin home past tid)
 unfolding of_begin
 begin_still home past tid tx site =
-    by_pick (IsStill (Cmd.Begin tx) site) _ _ _
-    (by_pick (IsStill (Cmd.Begin tx) site) _ _ _ (record { fit = record { answer = refl; other = refl; sends = inl refl }; calls = refl })
+    by_given (IsStill (Cmd.Begin tx) site) _ _ _
+    (by_given (IsStill (Cmd.Begin tx) site) _ _ _ (record { fit = record { answer = refl; other = refl; sends = inl refl }; calls = refl })
     (λ running e. record { fit = record { answer = refl; other = refl; sends = inl refl }; calls = refl }))
     (λ committed e. record { fit = record { answer = refl; other = refl; sends = inl refl }; calls = refl })
 
@@ -85,7 +85,7 @@ act_fits tid Reply_is.Unknown act = (refl, refl)
 act_still : (home : Home) (past : SitePast) (tid : Tid) (act : PlainAct) (tx : Tx) (site : SiteId) → IsStill (Cmd.Step tx) site (of_act home past tid act)
 unfolding of_act
 act_still home past tid act tx site =
-    by_pick (IsStill (Cmd.Step tx) site) _ _ _ (record { fit = record { answer = refl; other = refl; sends = inl refl }; calls = refl })
+    by_given (IsStill (Cmd.Step tx) site) _ _ _ (record { fit = record { answer = refl; other = refl; sends = inl refl }; calls = refl })
     (λ run e. record {
       fit = record {
         answer = (act_fits tid (reply_to home past run act) act).0;
@@ -109,8 +109,8 @@ refusal_fits (Because.TicketMoved by) = (refl, refl)
 commit_fit : (home : Home) (past : SitePast) (tid : Tid) (tx : Tx) (site : SiteId) → IsFit (Cmd.Commit tx) site (of_commit home past tid)
 unfolding of_commit seals_local
 commit_fit home past tid tx site =
-    by_pick (IsFit (Cmd.Commit tx) site) _ _ _ (record { answer = refl; other = refl; sends = inl refl })
-    (λ run e. by_pick (IsFit (Cmd.Commit tx) site) _ _ _ (record { answer = refl; other = refl; sends = inl refl })
+    by_given (IsFit (Cmd.Commit tx) site) _ _ _ (record { answer = refl; other = refl; sends = inl refl })
+    (λ run e. by_given (IsFit (Cmd.Commit tx) site) _ _ _ (record { answer = refl; other = refl; sends = inl refl })
     (λ why f. record { answer = (refusal_fits why).0; other = (refusal_fits why).1; sends = inl refl }))
 
 pub commit_line : (home : Home) (past : SitePast) (tid : Tid) (tx : Tx) (site : SiteId) → IsFit (Cmd.Commit tx) site (site_line home past (Ev.Commit tid))
@@ -122,7 +122,7 @@ commit_line home past tid tx site =
 abort_still : (home : Home) (past : SitePast) (tid : Tid) (tx : Tx) (site : SiteId) → IsStill (Cmd.Abort tx) site (of_abort home past tid)
 unfolding of_abort
 abort_still home past tid tx site =
-    by_pick (IsStill (Cmd.Abort tx) site) _ _ _ (record { fit = record { answer = refl; other = refl; sends = inl refl }; calls = refl })
+    by_given (IsStill (Cmd.Abort tx) site) _ _ _ (record { fit = record { answer = refl; other = refl; sends = inl refl }; calls = refl })
     (λ run e. record { fit = record { answer = refl; other = refl; sends = inl refl }; calls = refl })
 
 pub abort_line : (home : Home) (past : SitePast) (tid : Tid) (tx : Tx) (site : SiteId) → HasCalls (trip past) → IsFit (Cmd.Abort tx) site (site_line home past (Ev.Abort tid))
@@ -133,8 +133,8 @@ abort_line home past tid tx site p =
 fate_still : (home : Home) (past : SitePast) (tx other : Tx) (site : SiteId) → IsStill (Cmd.Fate other) site (of_fate home past tx)
 unfolding of_fate
 fate_still home past tx other site =
-    by_pick (IsStill (Cmd.Fate other) site) _ _ _
-    (by_pick (IsStill (Cmd.Fate other) site) _ _ _ (unbegun (attempts_of past tx == 0))
+    by_given (IsStill (Cmd.Fate other) site) _ _ _
+    (by_given (IsStill (Cmd.Fate other) site) _ _ _ (unbegun (attempts_of past tx == 0))
     (λ running e. record { fit = record { answer = refl; other = refl; sends = inl refl }; calls = refl }))
     (λ committed e. record { fit = record { answer = refl; other = refl; sends = inl refl }; calls = refl })
   where
@@ -215,13 +215,13 @@ module _ (site : SiteId) (place : ℕ) where
   work_fit home past tid e n act =
       let m = To.Work tid e n act in
       when_either (IsFit give site) _ _ _ (unknown_fit home past m tid n)
-      (by_pick (IsFit give site) _ _ _ (when_either (IsFit give site) _ _ _ (first_fit home past m tid n act) (unknown_fit home past m tid n)) (λ run f. work_live_fit home past m tid e n act run))
+      (by_given (IsFit give site) _ _ _ (when_either (IsFit give site) _ _ _ (first_fit home past m tid n act) (unknown_fit home past m tid n)) (λ run f. work_live_fit home past m tid e n act run))
 
   take_fit : (home : Home) (past : SitePast) (tid : Tid) (e n : ℕ) → IsFit give site (of_take home past tid e n)
   unfolding of_take
   take_fit home past tid e n =
       let m = To.Take tid e n in
-      when_either (IsFit give site) _ _ _ (unknown_fit home past m tid n) (by_pick (IsFit give site) _ _ _ (unknown_fit home past m tid n) (λ run f. take_live_fit home past m tid e n run))
+      when_either (IsFit give site) _ _ _ (unknown_fit home past m tid n) (by_given (IsFit give site) _ _ _ (unknown_fit home past m tid n) (λ run f. take_live_fit home past m tid e n run))
 
   no_fit : (tid : Tid) (e n : ℕ) (why : Option Why) (lines : List EngineLine) → SealsSo why → IsFit give site (votes_no tid e n why lines)
   unfolding votes_no
@@ -238,11 +238,11 @@ module _ (site : SiteId) (place : ℕ) where
   prepare_fit : (home : Home) (past : SitePast) (tid : Tid) (e n : ℕ) → IsFit give site (of_prepare home past tid e n)
   unfolding of_prepare prepare_live seals_global
   prepare_fit home past tid e n =
-      by_pick (IsFit give site) _ _ _
-      (by_pick (IsFit give site) _ _ _ (no_fit tid e n _ _ refl)
+      by_given (IsFit give site) _ _ _
+      (by_given (IsFit give site) _ _ _ (no_fit tid e n _ _ refl)
       (λ run f. when_either (IsFit give site) _ _ _
-      (by_pick (IsFit give site) _ _ _ (no_fit tid e n _ _ refl)
-      (λ ticket g. by_pick (IsFit give site) _ _ _ (yes_fit home past tid e n run ticket)
+      (by_given (IsFit give site) _ _ _ (no_fit tid e n _ _ refl)
+      (λ ticket g. by_given (IsFit give site) _ _ _ (yes_fit home past tid e n run ticket)
       (λ why h. no_fit tid e n (Some why) _ (subst SealsSo h (seal_refuses home.engine _ _ run)))))
       (no_fit tid e n _ _ refl)))
       (λ held f. when_either (IsFit give site) _ _ _ (again_fit tid e n held) (no_fit tid e n _ _ refl))
@@ -250,8 +250,8 @@ module _ (site : SiteId) (place : ℕ) where
   decide_fit : (home : Home) (past : SitePast) (tid : Tid) (decision : Decision) → IsFit give site (of_decide home past tid decision)
   unfolding of_decide settles unheld
   decide_fit home past tid decision =
-      by_pick (IsFit give site) _ _ _
-      (by_pick (IsFit give site) _ _ _ (record { answer = refl; other = refl; sends = inr refl }) (λ run f. record { answer = refl; other = refl; sends = inr refl }))
+      by_given (IsFit give site) _ _ _
+      (by_given (IsFit give site) _ _ _ (record { answer = refl; other = refl; sends = inr refl }) (λ run f. record { answer = refl; other = refl; sends = inr refl }))
       (λ held f. record { answer = refl; other = refl; sends = inr refl })
 
   give_fit : (home : Home) (past : SitePast) (message : ToSite) → IsFit give site (of_give home past message)
@@ -270,7 +270,7 @@ module _ (site : SiteId) (place : ℕ) where
 ask_still : (home : Home) (past : SitePast) (tid : Tid) (site : SiteId) (other : Tid) → IsStill (Cmd.Ask site other) site (of_ask home past tid)
 unfolding of_ask
 ask_still home past tid site other =
-    by_pick (IsStill (Cmd.Ask site other) site) _ _ _ (record { fit = record { answer = refl; other = refl; sends = inl refl }; calls = refl })
+    by_given (IsStill (Cmd.Ask site other) site) _ _ _ (record { fit = record { answer = refl; other = refl; sends = inl refl }; calls = refl })
     (λ held e. record { fit = record { answer = refl; other = refl; sends = inr refl }; calls = refl })
 
 pub ask_line : (home : Home) (past : SitePast) (tid : Tid) (site : SiteId) (other : Tid) → HasCalls (trip past) → IsFit (Cmd.Ask site other) site (site_line home past (Ev.Ask tid))
@@ -282,7 +282,7 @@ drop_still : (home : Home) (past : SitePast) (tid : Tid) (site : SiteId) (other 
 unfolding of_drop
 drop_still home past tid site other =
     when_either (IsStill (Cmd.Drop site other) site) _ _ _ (record { fit = record { answer = refl; other = refl; sends = inl refl }; calls = refl })
-    (by_pick (IsStill (Cmd.Drop site other) site) _ _ _ (record { fit = record { answer = refl; other = refl; sends = inl refl }; calls = refl })
+    (by_given (IsStill (Cmd.Drop site other) site) _ _ _ (record { fit = record { answer = refl; other = refl; sends = inl refl }; calls = refl })
     (λ run e. record { fit = record { answer = refl; other = refl; sends = inl refl }; calls = refl }))
 
 pub drop_line : (home : Home) (past : SitePast) (tid : Tid) (site : SiteId) (other : Tid) → HasCalls (trip past) → IsFit (Cmd.Drop site other) site (site_line home past (Ev.Drop tid))

@@ -19,7 +19,7 @@ use Rattle.line_laws.specs.Refusals.{ConservativeLinesRefuseNone, ConservativeNe
 use Rattle.mdb_base.specs.declared.names.SiteId.{SiteId}
 use Rattle.mdb_base.specs.declared.names.Tid.{Tid}
 use Rattle.fed_rules.specs.SiteRecords.{Home}
-use Rattle.mdb_base.specs.Words.{item_at, pick, when}
+use Rattle.mdb_base.specs.Words.{given, item_at, when}
 use Rattle.fed_rules.specs.declared.commands.Command.{Command}
 use Rattle.fed_rules.specs.declared.commands.Command.TheVariants as Cmd
 use Rattle.fed_rules.specs.declared.events.SiteEvent.{SiteEvent}
@@ -59,10 +59,10 @@ Silent (Nowhere answer) = RefusesForCycle answer → ⊥
 record Quiet (h : Happened) : Type 0 where
   quiet : Silent h
 
-quiet_pick : {A : Type 0} (o : Option A) (none : Happened) (some : A → Happened) → Quiet none → ((a : A) → Quiet (some a)) → Quiet (pick o none some)
-unfolding pick
-quiet_pick None none some p q = p
-quiet_pick (Some a) none some p q = q a
+quiet_given : {A : Type 0} (o : Option A) (none : Happened) (some : A → Happened) → Quiet none → ((a : A) → Quiet (some a)) → Quiet (given o some none)
+unfolding given
+quiet_given None none some p q = p
+quiet_given (Some a) none some p q = q a
 
 said_none : Quiet (Nowhere Say.None)
 said_none = record { quiet = λ r. r }
@@ -92,15 +92,15 @@ module _ (scenario : Scenario) (whole : IsScenario scenario) (commands : List Co
 
   quiet_site : (site : SiteId) (event : SiteEvent) → Quiet (on_site scenario story site event)
   unfolding on_site
-  quiet_site site event = quiet_pick (home_of scenario site) _ _ said_none (λ home. record { quiet = tt })
+  quiet_site site event = quiet_given (home_of scenario site) _ _ said_none (λ home. record { quiet = tt })
 
   quiet_give : (site : SiteId) (place : ℕ) → Quiet (on_give scenario story site place)
   unfolding on_give
-  quiet_give site place = quiet_pick (item_at (sent_to site story) place) _ _ said_none (λ message. quiet_site site _)
+  quiet_give site place = quiet_given (item_at (sent_to site story) place) _ _ said_none (λ message. quiet_site site _)
 
   quiet_take : (site : SiteId) (place : ℕ) → Quiet (on_take scenario story site place)
   unfolding on_take
-  quiet_take site place = quiet_pick (item_at (sent_from site story) place) _ _ said_none (λ message. record { quiet = tt })
+  quiet_take site place = quiet_given (item_at (sent_from site story) place) _ _ said_none (λ message. record { quiet = tt })
 
   quiet_actor : (actor : ℕ) (at_coord : CoordEvent) (at : SiteEvent) → Quiet (on_actor scenario story actor at_coord at)
   unfolding on_actor

@@ -5,7 +5,7 @@ use Rattle.mdb_base.specs.declared.acts.Step.{Step}
 use Rattle.mdb_base.specs.declared.names.Tid.{Tid}
 use Rattle.mdb_base.specs.declared.names.Tx.{Tx}
 use Rattle.mdb_base.specs.Programs.{plain_act}
-use Rattle.mdb_base.specs.Words.{item_at, map_some, pick, when}
+use Rattle.mdb_base.specs.Words.{given, item_at, map_some, when}
 use Rattle.mdb_base.proofs.Words.{item_at-past, item_at-slice_get}
 use Rattle.fed_rules.specs.declared.answers.Answer.TheVariants as Say
 use Rattle.fed_rules.specs.declared.events.SiteEvent.{SiteEvent}
@@ -27,11 +27,11 @@ use Rattle.site_core.proofs.RememberLaws.{passes_is, trip_left}
 
 -- one that is no transaction of the site's own
 pub none_request : (verb : Verb.Verb) (home : Home) (program : Option (List Step)) (past : SitePast) (tx : Tx) → program ≡ None → own_request verb home program past tx ≡ Declines Say.None
-unfolding own_request pick
+unfolding own_request given
 none_request verb home program past tx e = rw e refl
 
 own_is : (verb : Verb.Verb) (home : Home) (program : Option (List Step)) (past : SitePast) (tx : Tx) (steps : List Step) → program ≡ Some steps → own_request verb home program past tx ≡ request verb home steps past tx
-unfolding own_request pick
+unfolding own_request given
 own_is verb home program past tx steps e = rw e refl
 
 module _ (home : Home) (program : Option (List Step)) (past : SitePast) (tx : Tx) (steps : List Step) (own : program ≡ Some steps) where
@@ -56,15 +56,15 @@ module _ (home : Home) (program : Option (List Step)) (past : SitePast) (tx : Tx
   live_down next e = rw e refl
 
   live_idle : (next : Tid → Run → Request SiteEvent) → is_down past ≡ false → live_of_tx home past tx ≡ None → with_live home past tx next ≡ Declines Say.Idle
-  unfolding with_live when pick
+  unfolding with_live when given
   live_idle next e f = rw (e, f) refl
 
   live_gone : (next : Tid → Run → Request SiteEvent) (tid : Tid) → is_down past ≡ false → live_of_tx home past tx ≡ Some tid → live home past tid ≡ None → with_live home past tx next ≡ Declines Say.Idle
-  unfolding with_live when pick
+  unfolding with_live when given
   live_gone next tid e f h = rw (e, f, h) refl
 
   live_there : (next : Tid → Run → Request SiteEvent) (tid : Tid) (run : Run) → is_down past ≡ false → live_of_tx home past tx ≡ Some tid → live home past tid ≡ Some run → with_live home past tx next ≡ next tid run
-  unfolding with_live when pick
+  unfolding with_live when given
   live_there next tid run e f h = rw (e, f, h) refl
 
   step_is : request Verb.Step_on home steps past tx ≡ with_live home past tx (next_step steps)
@@ -111,11 +111,11 @@ module _ (home : Home) (program : Option (List Step)) (past : SitePast) (tx : Tx
   -- where there is one
   module _ (tid : Tid) (run : Run) (up : is_down past ≡ false) (runs : live_of_tx home past tx ≡ Some tid) (lives : live home past tid ≡ Some run) where
     step_none : item_at steps (done run) ≡ None → next_step steps tid run ≡ Declines Say.End
-    unfolding next_step pick
+    unfolding next_step given
     step_none e = rw e refl
 
     step_some : (step : Step) → item_at steps (done run) ≡ Some step → next_step steps tid run ≡ Submits (Ev.Act tid (plain_act (run_reads run) step.act))
-    unfolding next_step pick
+    unfolding next_step given
     step_some step e = rw e refl
 
     pub step_end : length steps ≤ done run → own_request Verb.Step_on home program past tx ≡ Declines Say.End

@@ -2,7 +2,7 @@
 use Rattle.std.proofs.Common.{◌≡◌, false, Option, Some, None, List, [], refl, subst, option_to_list}
 use Rattle.mdb_base.specs.declared.acts.Step.{Step}
 use Rattle.mdb_base.specs.declared.names.Tx.{Tx}
-use Rattle.mdb_base.specs.Words.{pick}
+use Rattle.mdb_base.specs.Words.{given}
 use Rattle.fed_rules.specs.declared.events.SiteEvent.{SiteEvent}
 use Rattle.fed_rules.specs.declared.events.SiteEvent.TheVariants as Ev
 use Rattle.fed_rules.specs.declared.messages.FromSite.{FromSite}
@@ -32,7 +32,7 @@ request_quiet verb home steps past tx (Submits event) e = own_events_silent home
 request_quiet verb home steps past tx (Declines answer) e = refl
 
 own_quiet : (verb : Verb) (home : Home) (program : Option (List Step)) (past : SitePast) (tx : Tx) → sends_of home past (own_request verb home program past tx) ≡ []
-unfolding own_request pick
+unfolding own_request given
 own_quiet verb home None past tx = refl
 own_quiet verb home (Some steps) past tx = request_quiet verb home steps past tx (request verb home steps past tx) refl
 

@@ -5,7 +5,7 @@ use Rattle.std.specs.Prelude.{nat_le}
 use Rattle.mdb_base.specs.declared.acts.PlainAct.{PlainAct}
 use Rattle.mdb_base.specs.declared.names.Tid.{Tid}
 use Rattle.mdb_base.specs.declared.names.Tx.{Tx}
-use Rattle.mdb_base.specs.Words.{pick, when}
+use Rattle.mdb_base.specs.Words.{given, when}
 use Rattle.mdb_base.proofs.NameLaws.{same_tx-refl}
 use Rattle.presumptions.specs.declared.Decision.{Decision}
 use Rattle.presumptions.specs.declared.Decision.TheVariants as Decided
@@ -26,7 +26,7 @@ use Rattle.fed_rules.specs.Site.{act_answer, answered, ended_calls, number_of, o
 use Rattle.fed_rules.specs.SitePast.{SiteHappening, SitePast, attempts_of, begins_tx, disk, epoch, live, trip}
 use Rattle.fed_rules.specs.SiteRecords.{Home, site_frame}
 use Rattle.site_history.proofs.Starts.{EachAppend, append_take}
-use Rattle.site_core.proofs.RuleWalks.{by_pick, by_when}
+use Rattle.site_core.proofs.RuleWalks.{by_given, by_when}
 use Rattle.site_core.proofs.UpLaws.{act_answers, refusal_plain}
 use Rattle.engine_laws.proofs.Numbers.{draws}
 use Rattle.engine_laws.proofs.Keeps.{settling}
@@ -53,8 +53,8 @@ unbegun : (event : SiteEvent) (answer : Answer) → ((tx : Tx) → begins_tx tx 
 unbegun event (Say.Begun tid) none = let is = same_tx-refl tid.tx in let not = none tid.tx in cc
 unbegun event answer none = tt
 
-by_found : {A : Type 0} (P : SiteHappening → Type 0) (o : Option A) (none : SiteHappening) (some : A → SiteHappening) → P none → ((x : A) → o ≡ Some x → P (some x)) → P (pick o none some)
-unfolding pick
+by_found : {A : Type 0} (P : SiteHappening → Type 0) (o : Option A) (none : SiteHappening) (some : A → SiteHappening) → P none → ((x : A) → o ≡ Some x → P (some x)) → P (given o some none)
+unfolding given
 by_found P None none some n s = n
 by_found P (Some x) none some n s = s x refl
 
@@ -89,38 +89,38 @@ module _ (n m : ℕ) (home : Home) (past : SitePast) (epochs : epoch home past +
     (tickets : (tid : Tid) (run : Run) (t : ℕ) → live home past tid ≡ Some run → run.ticket ≡ Some t → t ≤ n) where
   small_begin : (t : Tid) → IsSmall n m (of_begin home past t)
   unfolding of_begin
-  small_begin t = by_pick (IsSmall n m) _ _ _ (by_pick (IsSmall n m) _ _ _ (leaf n m _ _ _ _ refl one_draw) (λ r. leaf n m _ _ _ _ tt no_draw)) (λ c. leaf n m _ _ _ _ tt no_draw)
+  small_begin t = by_given (IsSmall n m) _ _ _ (by_given (IsSmall n m) _ _ _ (leaf n m _ _ _ _ refl one_draw) (λ r. leaf n m _ _ _ _ tt no_draw)) (λ c. leaf n m _ _ _ _ tt no_draw)
 
   small_act : (t : Tid) (act : PlainAct) → IsSmall n m (of_act home past t act)
   unfolding of_act
   small_act t act =
-      by_pick (IsSmall n m) _ _ _ (leaf n m _ _ _ _ tt no_draw)
+      by_given (IsSmall n m) _ _ _ (leaf n m _ _ _ _ tt no_draw)
       (λ run. leaf n m (Ev.Act t act) _ _ _ (unbegun (Ev.Act t act) (act_answer t (reply_to home past run act) act) (act_answers t act (reply_to home past run act)).2) no_draw)
 
   small_commit : (t : Tid) → IsSmall n m (of_commit home past t)
   unfolding of_commit Site.seals_local
   small_commit t =
       by_found (IsSmall n m) _ _ _ (leaf n m _ _ _ _ tt no_draw)
-      (λ run e. by_pick (IsSmall n m) _ _ _ (record { drawn = one_draw; kept = (numbers t run e, tt); begun = tt })
+      (λ run e. by_given (IsSmall n m) _ _ _ (record { drawn = one_draw; kept = (numbers t run e, tt); begun = tt })
       (λ why. leaf n m (Ev.Commit t) _ _ _ (unbegun (Ev.Commit t) (refusal_answer why) (refusal_plain why).2) no_draw))
 
   small_abort : (t : Tid) → IsSmall n m (of_abort home past t)
   unfolding of_abort
-  small_abort t = by_pick (IsSmall n m) _ _ _ (leaf n m _ _ _ _ tt no_draw) (λ run. leaf n m _ _ _ _ tt no_draw)
+  small_abort t = by_given (IsSmall n m) _ _ _ (leaf n m _ _ _ _ tt no_draw) (λ run. leaf n m _ _ _ _ tt no_draw)
 
   small_fate : (tx : Tx) → IsSmall n m (of_fate home past tx)
   unfolding of_fate
   small_fate tx =
-      by_pick (IsSmall n m) _ _ _
-      (by_pick (IsSmall n m) _ _ _ (leaf n m (Ev.Fate tx) _ _ _ (ended_fate (Ev.Fate tx) (attempts_of past tx == 0)) no_draw) (λ r. leaf n m _ _ _ _ tt no_draw)) (λ c. leaf n m _ _ _ _ tt no_draw)
+      by_given (IsSmall n m) _ _ _
+      (by_given (IsSmall n m) _ _ _ (leaf n m (Ev.Fate tx) _ _ _ (ended_fate (Ev.Fate tx) (attempts_of past tx == 0)) no_draw) (λ r. leaf n m _ _ _ _ tt no_draw)) (λ c. leaf n m _ _ _ _ tt no_draw)
 
   small_ask : (t : Tid) → IsSmall n m (of_ask home past t)
   unfolding of_ask
-  small_ask t = by_pick (IsSmall n m) _ _ _ (leaf n m _ _ _ _ tt no_draw) (λ held. leaf n m _ _ _ _ tt no_draw)
+  small_ask t = by_given (IsSmall n m) _ _ _ (leaf n m _ _ _ _ tt no_draw) (λ held. leaf n m _ _ _ _ tt no_draw)
 
   small_drop : (t : Tid) → IsSmall n m (of_drop home past t)
   unfolding of_drop
-  small_drop t = by_when (IsSmall n m) _ _ _ (leaf n m _ _ _ _ tt no_draw) (by_pick (IsSmall n m) _ _ _ (leaf n m _ _ _ _ tt no_draw) (λ run. leaf n m _ _ _ _ tt no_draw))
+  small_drop t = by_when (IsSmall n m) _ _ _ (leaf n m _ _ _ _ tt no_draw) (by_given (IsSmall n m) _ _ _ (leaf n m _ _ _ _ tt no_draw) (λ run. leaf n m _ _ _ _ tt no_draw))
 
   small_check : IsSmall n m (of_check home past)
   unfolding of_check
@@ -134,7 +134,7 @@ module _ (n m : ℕ) (home : Home) (past : SitePast) (epochs : epoch home past +
   unfolding of_work Site.work_live Site.first_work Site.next_work Site.repeated Site.unknown Site.did
   small_work t e k act =
       by_when (IsSmall n m) _ _ _ (leaf n m _ _ _ _ tt no_draw)
-      (by_pick (IsSmall n m) _ _ _ (by_when (IsSmall n m) _ _ _ (leaf n m _ _ _ _ tt one_draw) (leaf n m _ _ _ _ tt no_draw))
+      (by_given (IsSmall n m) _ _ _ (by_when (IsSmall n m) _ _ _ (leaf n m _ _ _ _ tt one_draw) (leaf n m _ _ _ _ tt no_draw))
       (λ run. by_when (IsSmall n m) _ _ _ (leaf n m _ _ _ _ tt no_draw)
       (by_when (IsSmall n m) _ _ _ (leaf n m _ _ _ _ tt no_draw) (by_when (IsSmall n m) _ _ _ (leaf n m _ _ _ _ tt no_draw) (leaf n m _ _ _ _ tt no_draw)))))
 
@@ -142,25 +142,25 @@ module _ (n m : ℕ) (home : Home) (past : SitePast) (epochs : epoch home past +
   unfolding of_take Site.take_live Site.next_take Site.repeated Site.unknown Site.did
   small_take t e k =
       by_when (IsSmall n m) _ _ _ (leaf n m _ _ _ _ tt no_draw)
-      (by_pick (IsSmall n m) _ _ _ (leaf n m _ _ _ _ tt no_draw)
+      (by_given (IsSmall n m) _ _ _ (leaf n m _ _ _ _ tt no_draw)
       (λ run. by_when (IsSmall n m) _ _ _ (leaf n m _ _ _ _ tt no_draw)
       (by_when (IsSmall n m) _ _ _ (leaf n m _ _ _ _ tt no_draw) (by_when (IsSmall n m) _ _ _ (leaf n m _ _ _ _ tt no_draw) (leaf n m _ _ _ _ tt no_draw)))))
 
   small_prepare : (t : Tid) (e k : ℕ) → IsSmall n m (of_prepare home past t e k)
   unfolding of_prepare Site.prepare_live Site.seals_global Site.votes_again Site.votes_no Site.votes_yes
   small_prepare t e k =
-      by_pick (IsSmall n m) _ _ _
+      by_given (IsSmall n m) _ _ _
       (by_found (IsSmall n m) _ _ _ (leaf n m _ _ _ _ tt no_draw)
       (λ run lives. by_when (IsSmall n m) _ _ _
       (by_found (IsSmall n m) _ _ _ (leaf n m _ _ _ _ tt no_draw)
-      (λ ticket has. by_pick (IsSmall n m) _ _ _ (record { drawn = one_draw; kept = ((numbers t run lives, tickets t run ticket lives has), tt); begun = tt }) (λ why. leaf n m _ _ _ _ tt no_draw)))
+      (λ ticket has. by_given (IsSmall n m) _ _ _ (record { drawn = one_draw; kept = ((numbers t run lives, tickets t run ticket lives has), tt); begun = tt }) (λ why. leaf n m _ _ _ _ tt no_draw)))
       (leaf n m _ _ _ _ tt no_draw)))
       (λ held. by_when (IsSmall n m) _ _ _ (leaf n m _ _ _ _ tt no_draw) (leaf n m _ _ _ _ tt no_draw))
 
   small_decide : (t : Tid) (decision : Decision) → IsSmall n m (of_decide home past t decision)
   unfolding of_decide Site.unheld Site.settles
   small_decide t decision =
-      by_pick (IsSmall n m) _ _ _ (by_pick (IsSmall n m) _ _ _ (leaf n m _ _ _ _ tt no_draw) (λ run. leaf n m _ _ _ _ tt no_draw))
+      by_given (IsSmall n m) _ _ _ (by_given (IsSmall n m) _ _ _ (leaf n m _ _ _ _ tt no_draw) (λ run. leaf n m _ _ _ _ tt no_draw))
       (λ held. record { drawn = settling t decision; kept = ended_below n m t decision (forces home.protocol decision); begun = tt })
 
   small_answered : (event : SiteEvent) → IsSmall n m (answered home past event)

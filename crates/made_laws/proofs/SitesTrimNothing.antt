@@ -21,7 +21,7 @@ use Rattle.fed_rules.specs.Site as S
 use Rattle.fed_rules.specs.SitePast as Site
 use Rattle.fed_rules.specs.SitePast.{SiteHappening, SitePast}
 use Rattle.fed_rules.specs.SiteRecords.{Home, site_frame}
-use Rattle.made_laws.proofs.Trimless.{TrimsNothing, Trimless, by_pick, by_trip, is_trim}
+use Rattle.made_laws.proofs.Trimless.{TrimsNothing, Trimless, by_given, by_trip, is_trim}
 
 abbrev pub IsSiteCheck : SiteEvent → Type 0
 IsSiteCheck Site_event.Check = Unit {0}
@@ -40,27 +40,27 @@ module _ (home : Home) (past : SitePast) where
   unfolding S.of_work S.first_work S.unknown S.did S.work_live S.next_work Trimless
   work_trims tid e n act =
       when_either TrimsNothing _ _ _ (record { calls = tt })
-      (by_pick TrimsNothing _ _ _ (when_either TrimsNothing _ _ _ (record { calls = tt }) (record { calls = tt }))
+      (by_given TrimsNothing _ _ _ (when_either TrimsNothing _ _ _ (record { calls = tt }) (record { calls = tt }))
       (λ run. when_either TrimsNothing _ _ _ (record { calls = tt }) (when_either TrimsNothing _ _ _ (record { calls = tt }) (kept_reply (To.Work tid e n act) tid n run))))
 
   take_trims : (tid : Tid) (e n : ℕ) → TrimsNothing (S.of_take home past tid e n)
   unfolding S.of_take S.take_live S.next_take S.unknown S.did Trimless
   take_trims tid e n =
       when_either TrimsNothing _ _ _ (record { calls = tt })
-      (by_pick TrimsNothing _ _ _ (record { calls = tt }) (λ run. when_either TrimsNothing _ _ _ (record { calls = tt }) (when_either TrimsNothing _ _ _ (record { calls = tt }) (kept_reply (To.Take tid e n) tid n run))))
+      (by_given TrimsNothing _ _ _ (record { calls = tt }) (λ run. when_either TrimsNothing _ _ _ (record { calls = tt }) (when_either TrimsNothing _ _ _ (record { calls = tt }) (kept_reply (To.Take tid e n) tid n run))))
 
   prepare_trims : (tid : Tid) (e n : ℕ) → TrimsNothing (S.of_prepare home past tid e n)
   unfolding S.of_prepare S.prepare_live S.seals_global S.votes_yes S.votes_no S.votes_again Trimless is_trim
   prepare_trims tid e n =
-      by_pick TrimsNothing _ _ _
-      (by_pick TrimsNothing _ _ _ (record { calls = tt })
-      (λ run. when_either TrimsNothing _ _ _ (by_pick TrimsNothing _ _ _ (record { calls = tt }) (λ ticket. by_pick TrimsNothing _ _ _ (record { calls = (refl, (refl, tt)) }) (λ why. record { calls = tt }))) (record { calls = tt })))
+      by_given TrimsNothing _ _ _
+      (by_given TrimsNothing _ _ _ (record { calls = tt })
+      (λ run. when_either TrimsNothing _ _ _ (by_given TrimsNothing _ _ _ (record { calls = tt }) (λ ticket. by_given TrimsNothing _ _ _ (record { calls = (refl, (refl, tt)) }) (λ why. record { calls = tt }))) (record { calls = tt })))
       (λ held. when_either TrimsNothing _ _ _ (record { calls = tt }) (record { calls = tt }))
 
   decide_trims : (tid : Tid) (decision : Decision) → TrimsNothing (S.of_decide home past tid decision)
   unfolding S.of_decide S.settles S.unheld Trimless is_trim
   decide_trims tid decision =
-      by_pick TrimsNothing _ _ _ (by_pick TrimsNothing _ _ _ (record { calls = tt }) (λ run. record { calls = tt })) (λ held. record { calls = (refl, forced_or_not (forces home.protocol decision)) })
+      by_given TrimsNothing _ _ _ (by_given TrimsNothing _ _ _ (record { calls = tt }) (λ run. record { calls = tt })) (λ held. record { calls = (refl, forced_or_not (forces home.protocol decision)) })
     where
       forced_or_not : (b : Bool) → Each (λ (call : Call SiteRecord). is_trim call ≡ false) (cond b (Sync ∷ []) [])
       forced_or_not true = (refl, tt)
@@ -75,31 +75,31 @@ module _ (home : Home) (past : SitePast) where
 
   begin_trims : (tid : Tid) → TrimsNothing (S.of_begin home past tid)
   unfolding S.of_begin Trimless
-  begin_trims tid = by_pick TrimsNothing _ _ _ (by_pick TrimsNothing _ _ _ (record { calls = tt }) (λ running. record { calls = tt })) (λ committed. record { calls = tt })
+  begin_trims tid = by_given TrimsNothing _ _ _ (by_given TrimsNothing _ _ _ (record { calls = tt }) (λ running. record { calls = tt })) (λ committed. record { calls = tt })
 
   act_trims : (tid : Tid) (act : PlainAct) → TrimsNothing (S.of_act home past tid act)
   unfolding S.of_act Trimless
-  act_trims tid act = by_pick TrimsNothing _ _ _ (record { calls = tt }) (λ run. record { calls = tt })
+  act_trims tid act = by_given TrimsNothing _ _ _ (record { calls = tt }) (λ run. record { calls = tt })
 
   commit_trims : (tid : Tid) → TrimsNothing (S.of_commit home past tid)
   unfolding S.of_commit S.seals_local Trimless is_trim
-  commit_trims tid = by_pick TrimsNothing _ _ _ (record { calls = tt }) (λ run. by_pick TrimsNothing _ _ _ (record { calls = (refl, (refl, tt)) }) (λ why. record { calls = tt }))
+  commit_trims tid = by_given TrimsNothing _ _ _ (record { calls = tt }) (λ run. by_given TrimsNothing _ _ _ (record { calls = (refl, (refl, tt)) }) (λ why. record { calls = tt }))
 
   abort_trims : (tid : Tid) → TrimsNothing (S.of_abort home past tid)
   unfolding S.of_abort Trimless
-  abort_trims tid = by_pick TrimsNothing _ _ _ (record { calls = tt }) (λ run. record { calls = tt })
+  abort_trims tid = by_given TrimsNothing _ _ _ (record { calls = tt }) (λ run. record { calls = tt })
 
   fate_trims : (tx : Tx) → TrimsNothing (S.of_fate home past tx)
   unfolding S.of_fate Trimless
-  fate_trims tx = by_pick TrimsNothing _ _ _ (by_pick TrimsNothing _ _ _ (record { calls = tt }) (λ running. record { calls = tt })) (λ committed. record { calls = tt })
+  fate_trims tx = by_given TrimsNothing _ _ _ (by_given TrimsNothing _ _ _ (record { calls = tt }) (λ running. record { calls = tt })) (λ committed. record { calls = tt })
 
   ask_trims : (tid : Tid) → TrimsNothing (S.of_ask home past tid)
   unfolding S.of_ask Trimless
-  ask_trims tid = by_pick TrimsNothing _ _ _ (record { calls = tt }) (λ held. record { calls = tt })
+  ask_trims tid = by_given TrimsNothing _ _ _ (record { calls = tt }) (λ held. record { calls = tt })
 
   drop_trims : (tid : Tid) → TrimsNothing (S.of_drop home past tid)
   unfolding S.of_drop Trimless
-  drop_trims tid = when_either TrimsNothing _ _ _ (record { calls = tt }) (by_pick TrimsNothing _ _ _ (record { calls = tt }) (λ run. record { calls = tt }))
+  drop_trims tid = when_either TrimsNothing _ _ _ (record { calls = tt }) (by_given TrimsNothing _ _ _ (record { calls = tt }) (λ run. record { calls = tt }))
 
   back_trims : TrimsNothing (S.of_back home past)
   unfolding S.of_back Trimless is_trim

@@ -1,6 +1,6 @@
 -- Calls of a disk that trim nothing, and lines that make only such.
 use Rattle.std.proofs.Common.{◌≡◌, ℕ, zero, suc, Bool, true, false, cond, Option, Some, None, List, [], ◌∷◌, ◌++◌, take, refl, ap, ◌∙◌, arith, le-leb}
-use Rattle.mdb_base.specs.Words.{Each, pick}
+use Rattle.mdb_base.specs.Words.{Each, given}
 use Rattle.mdb_base.proofs.BoolLaws.{when_either}
 use Rattle.fed_rules.specs.Disk as Disks
 use Rattle.fed_rules.specs.Disk.{Call, Append, CutBack, Disk, Stops, Sync, TrimFront, after_call, after_calls, bytes_of, is_torn}
@@ -42,10 +42,10 @@ whole_journal size disk e = ap (λ n. Disks.standing size n disk.records) e ∙ 
 pub record TrimsNothing {E M R : Type 0} (x : Happening E M R) : Type 0 where
   pub calls : Trimless x.calls
 
-pub by_pick : {A B : Type 0} (P : B → Type 0) (o : Option A) (x : B) (f : A → B) → P x → ((v : A) → P (f v)) → P (pick o x f)
-unfolding pick
-by_pick P None x f p q = p
-by_pick P (Some v) x f p q = q v
+pub by_given : {A B : Type 0} (P : B → Type 0) (o : Option A) (x : B) (f : A → B) → P x → ((v : A) → P (f v)) → P (given o f x)
+unfolding given
+by_given P None x f p q = p
+by_given P (Some v) x f p q = q v
 
 front : {R : Type 0} (n : ℕ) (calls : List (Call R)) (cut : ℕ) → Trimless calls → Trimless (take n calls ++ Stops cut ∷ [])
 unfolding Trimless is_trim

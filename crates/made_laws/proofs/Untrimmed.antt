@@ -40,7 +40,7 @@ use Rattle.fed_rules.specs.Story.{Happened, AtCoordinator, AtSite, Nowhere, Stor
 use Rattle.rules_laws.specs.Lines.{CoordCause, IsCoordLine, IsLine, IsSiteLine, SiteCause}
 use Rattle.rules_laws.proofs.Lines.{line_is}
 use Rattle.made_laws.specs.Unchecked.{AreUnchecked, UncheckedJournalsAreWhole, is_check}
-use Rattle.made_laws.proofs.Trimless.{TrimsNothing, Trimless, by_pick, by_trip, is_trim, trimmed_stays, whole_journal}
+use Rattle.made_laws.proofs.Trimless.{TrimsNothing, Trimless, by_given, by_trip, is_trim, trimmed_stays, whole_journal}
 use Rattle.made_laws.proofs.SitesTrimNothing.{IsSiteCheck, site_trims}
 
 -- ---- the coordinator
@@ -69,7 +69,7 @@ module _ (table : List Participant) (rule : Policy) (past : CoordPast) where
 
   go_trims : (tid : Tid) (steps : List Step) → TrimsNothing (C.of_go table past tid steps)
   unfolding C.of_go Trimless
-  go_trims tid steps = by_pick TrimsNothing _ _ _ (by_pick TrimsNothing _ _ _ (record { calls = tt }) (λ running. record { calls = tt })) (λ committed. record { calls = tt })
+  go_trims tid steps = by_given TrimsNothing _ _ _ (by_given TrimsNothing _ _ _ (record { calls = tt }) (λ running. record { calls = tt })) (λ committed. record { calls = tt })
 
   news_trims : (event : CoordEvent) (tid : Tid) (dues : List Due) → TrimsNothing (C.sends_news table rule past event tid dues)
   unfolding C.sends_news
@@ -93,7 +93,7 @@ module _ (table : List Participant) (rule : Policy) (past : CoordPast) where
     where
       by_vote : (v : Option ℕ) → TrimsNothing (C.vote_counted table past site tid v)
       by_vote None = aborts_trims _ tid _
-      by_vote (Some ticket) = when_either TrimsNothing _ _ _ (by_pick TrimsNothing _ _ _ (commits_trims _ tid _) (λ edges. aborts_trims _ tid _)) (record { calls = tt })
+      by_vote (Some ticket) = when_either TrimsNothing _ _ _ (by_given TrimsNothing _ _ _ (commits_trims _ tid _) (λ edges. aborts_trims _ tid _)) (record { calls = tt })
 
   ack_trims : (site : SiteId) (tid : Tid) → TrimsNothing (C.of_ack table past site tid)
   unfolding C.of_ack C.acked_while C.ack_counts Trimless is_trim
@@ -135,7 +135,7 @@ module _ (table : List Participant) (rule : Policy) (past : CoordPast) where
 
   told_trims : (tx : Tx) → TrimsNothing (C.of_fate past tx)
   unfolding C.of_fate Trimless
-  told_trims tx = by_pick TrimsNothing _ _ _ (by_pick TrimsNothing _ _ _ (record { calls = tt }) (λ running. record { calls = tt })) (λ committed. record { calls = tt })
+  told_trims tx = by_given TrimsNothing _ _ _ (by_given TrimsNothing _ _ _ (record { calls = tt }) (λ running. record { calls = tt })) (λ committed. record { calls = tt })
 
   up_trims : TrimsNothing (C.of_back table past)
   unfolding C.of_back Trimless is_trim

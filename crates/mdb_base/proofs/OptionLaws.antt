@@ -3,7 +3,7 @@ use Rattle.std.specs.Prelude.{ℕ, Option, Some, None, is_some}
 use Rattle.std.specs.Borrow.{MutBor}
 use Rattle.std.specs.Option.{option_copied_mut}
 use Rattle.std.proofs.Common.{Option, Some, None, IsSome, refl, ◌≡◌, false, is_some, ℕ, true, Bool, cond, is_none, ap}
-use Rattle.mdb_base.specs.Words.{pick, map_some}
+use Rattle.mdb_base.specs.Words.{given, map_some}
 
 abbrev pub first_of : Option ℕ → Option ℕ → Option ℕ
 first_of None older = older
@@ -46,14 +46,14 @@ is_some-true None e = cc
 is_some-true (Some x) e = refl
 
 -- a value that is there decides a branch
-pub pick_some : {A B : Type 0} (o : Option A) (none : B) (some : A → B) (x : A) → o ≡ Some x → pick o none some ≡ some x
-unfolding pick
-pick_some o none some x e = ap (λ q. pick q none some) e
+pub given_some : {A B : Type 0} (o : Option A) (none : B) (some : A → B) (x : A) → o ≡ Some x → given o some none ≡ some x
+unfolding given
+given_some o none some x e = ap (λ q. given q some none) e
 
 -- a value that isn't there decides a branch
-pub pick_none : {A B : Type 0} (o : Option A) (none : B) (some : A → B) → o ≡ None → pick o none some ≡ none
-unfolding pick
-pick_none o none some e = ap (λ q. pick q none some) e
+pub given_none : {A B : Type 0} (o : Option A) (none : B) (some : A → B) → o ≡ None → given o some none ≡ none
+unfolding given
+given_none o none some e = ap (λ q. given q some none) e
 
 pub some_mapped : {A B : Type 0} (f : A → B) (o : Option A) → is_some (map_some f o) ≡ is_some o
 some_mapped f None = refl
@@ -63,7 +63,7 @@ pub none_from : {A B : Type 0} (f : A → B) (o : Option A) → map_some f o ≡
 none_from f None h = refl
 none_from f (Some x) h = cc
 
-pub by_pick : {A B : Type 0} (P : B → Type 0) (o : Option A) (x : B) (f : A → B) → P x → ((v : A) → o ≡ Some v → P (f v)) → P (pick o x f)
-unfolding pick
-by_pick P None x f p q = p
-by_pick P (Some v) x f p q = q v refl
+pub by_given : {A B : Type 0} (P : B → Type 0) (o : Option A) (x : B) (f : A → B) → P x → ((v : A) → o ≡ Some v → P (f v)) → P (given o f x)
+unfolding given
+by_given P None x f p q = p
+by_given P (Some v) x f p q = q v refl

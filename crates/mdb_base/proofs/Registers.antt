@@ -4,7 +4,7 @@ use Rattle.std.proofs.lemmas.List.{at_drop_more}
 use Rattle.mdb_base.specs.declared.acts.Act.{Act}
 use Rattle.mdb_base.specs.declared.acts.Act.TheVariants.{Get, Set, Add}
 use Rattle.mdb_base.specs.declared.acts.Step.{Step}
-use Rattle.mdb_base.specs.Words.{pick}
+use Rattle.mdb_base.specs.Words.{given}
 use Rattle.mdb_base.specs.Programs.{IsProgram, bad_register, has_register, is_get, next_of, plain_act, reads_after, reads_of}
 use Rattle.mdb_base.proofs.Words.{cond-true, cond-false, cond-none, item_at-within, item_at-past}
 
@@ -43,10 +43,10 @@ program_register steps done reads d p h e =
 
 -- the next step of a program that isn't done
 pub next_of-within : (steps : List Step) (done : ℕ) (reads : List ℕ) (d : Step) → done < length steps → next_of steps done reads ≡ Some (record { site = (get_or steps done d).site; act = plain_act reads (get_or steps done d).act })
-unfolding pick
+unfolding given
 next_of-within steps done reads d h = rw (item_at-within steps done d h) refl
 
 -- there is none behind the last one
 pub next_of-past : (steps : List Step) (done : ℕ) (reads : List ℕ) → length steps ≤ done → next_of steps done reads ≡ None
-unfolding pick
+unfolding given
 next_of-past steps done reads h = rw (item_at-past steps done h) refl

@@ -6,7 +6,7 @@ use Rattle.mdb_base.specs.declared.acts.PlainAct.{PlainAct}
 use Rattle.mdb_base.specs.declared.acts.PlainAct.TheVariants.{Read, Write}
 use Rattle.mdb_base.specs.declared.acts.Step.{Step}
 use Rattle.mdb_base.specs.declared.program.Next.{Next}
-use Rattle.mdb_base.specs.Words.{pick, how_many, item_at}
+use Rattle.mdb_base.specs.Words.{given, how_many, item_at}
 
 -- how many steps a program may have
 abbrev pub most_steps : ℕ
@@ -52,4 +52,4 @@ reads_of = how_many (λ step. is_get step.act)
 -- the step at this place with its act filled in from the values read before it; none behind the last step
 abbrev pub next_of : List Step → ℕ → List ℕ → Option Next
 next_of steps done reads =
-    pick (item_at steps done) None (λ step. Some (record { site = step.site; act = plain_act reads step.act }))
+    given (item_at steps done) (λ step. Some (record { site = step.site; act = plain_act reads step.act })) None

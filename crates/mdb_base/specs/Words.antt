@@ -6,10 +6,10 @@ unfoldable pub when : {A : Type 0} → Bool → A → A → A
 when true x y = x
 when false x y = y
 
--- the first where there is no value, else what the function makes of it: the branches of a rule
-unfoldable pub pick : {A B : Type 0} → Option A → B → (A → B) → B
-pick None none some = none
-pick (Some x) none some = some x
+-- what the function makes of the value, where there is one, and else the other: the branches of a rule
+unfoldable pub given : {A B : Type 0} → Option A → (A → B) → B → B
+given None some none = none
+given (Some x) some none = some x
 
 -- the value, or this one where there is none
 abbrev pub or_else : {A : Type 0} → Option A → A → A

@@ -2,7 +2,7 @@
 use Rattle.std.proofs.Common.{◌≡◌, ℕ, false, cond, Option, Some, None, List, [], ◌∷◌, ◌++◌, map, length, inl, refl, sym, ap, subst, ◌∙◌}
 use Rattle.mdb_base.specs.declared.names.SiteId.{SiteId}
 use Rattle.mdb_base.specs.declared.names.Tid.{Tid}
-use Rattle.mdb_base.specs.Words.{pick, item_at}
+use Rattle.mdb_base.specs.Words.{given, item_at}
 use Rattle.mdb_base.proofs.NameLaws.{same_tid-refl, same_site-refl}
 use Rattle.mdb_base.proofs.Words.{cond-true}
 use Rattle.presumptions.specs.declared.Decision.{Decision}
@@ -33,7 +33,7 @@ use Rattle.closing_laws.proofs.Onward.{at_home}
 use Rattle.commit_laws.specs.Outcomes.{SettlesSayTheOutcome}
 use Rattle.commit_laws.specs.Outcomes.{Settles}
 use Rattle.commit_laws.proofs.SiteEnds.{settles-records}
-use Rattle.progress_laws.specs.Progress.{AreReady, DoubtsEndInThree, EndsDoubt, asked, given, taken}
+use Rattle.progress_laws.specs.Progress.{AreReady, DoubtsEndInThree, EndsDoubt, answer_given, asked, taken}
 
 -- the line that asks
 asking : Tid → SiteHappening
@@ -80,10 +80,10 @@ module _ (scenario : Scenario) (commands : List Command) (home : Home) (tid : Ti
 
   -- the site asks
   asks_so : happens scenario story (Cmd.Ask home.site tid) ≡ AtSite home.site (asking tid)
-  unfolding happens of_ask asking pick
+  unfolding happens of_ask asking given
   asks_so =
       at_home scenario story home (Ev.Ask tid) declared
-      ∙ ap (λ x. AtSite home.site x) (asks home past tid site_ready ∙ ap (λ q. pick q (quiet (Ev.Ask tid) Say.Idle) (λ held. asking tid)) doubt)
+      ∙ ap (λ x. AtSite home.site x) (asks home past tid site_ready ∙ ap (λ q. given q (λ held. asking tid) (quiet (Ev.Ask tid) Say.Idle)) doubt)
 
   -- what a site's line is to its past
   own_line : (x : SiteHappening) (older : SitePast) → with_site home.site (AtSite home.site x) older ≡ x ∷ older
@@ -133,21 +133,21 @@ module _ (scenario : Scenario) (commands : List Command) (home : Home) (tid : Ti
   asked_ready = ready_next trip_of past (asking tid) refl refl site_ready
 
   decides_so : of_decide home (asking tid ∷ past) tid told.decision ≡ settles home tid told.decision
-  unfolding of_decide asking pick
-  decides_so = ap (λ o. pick o (pick (live home (asking tid ∷ past) tid) (unheld home tid told.decision []) (λ run. unheld home tid told.decision (Aborts tid ∷ []))) (λ held. settles home tid told.decision)) doubt
+  unfolding of_decide asking given
+  decides_so = ap (λ o. given o (λ held. settles home tid told.decision) (given (live home (asking tid ∷ past) tid) (λ run. unheld home tid told.decision (Aborts tid ∷ [])) (unheld home tid told.decision []))) doubt
 
   -- the site is given the answer
   gives_so : happens scenario (story_of scenario (taken scenario home.site tid commands)) (Cmd.Give home.site (length (sent_to home.site (story_of scenario (asked home.site tid commands))))) ≡ AtSite home.site (settles home tid told.decision)
-  unfolding happens on_give pick of_give
+  unfolding happens on_give given of_give
   gives_so =
       let now = story_of scenario (taken scenario home.site tid commands) in
-      ap (λ o. pick o (Nowhere Say.None) (λ message. on_site scenario now home.site (Ev.Give message))) decision_there
+      ap (λ o. given o (λ message. on_site scenario now home.site (Ev.Give message)) (Nowhere Say.None)) decision_there
       ∙ (at_home scenario now home (Ev.Give (To.Decide tid told.decision)) declared
       ∙ ap (λ x. AtSite home.site x)
       (ap (λ p. site_line home p (Ev.Give (To.Decide tid told.decision))) past_taken
       ∙ (gives home (asking tid ∷ past) (To.Decide tid told.decision) asked_ready ∙ decides_so)))
 
-  past_given : past_of home.site (story_of scenario (given scenario home.site tid commands)) ≡ settles home tid told.decision ∷ past_of home.site (story_of scenario (taken scenario home.site tid commands))
+  past_given : past_of home.site (story_of scenario (answer_given scenario home.site tid commands)) ≡ settles home tid told.decision ∷ past_of home.site (story_of scenario (taken scenario home.site tid commands))
   past_given =
       let older = past_of home.site (story_of scenario (taken scenario home.site tid commands)) in
       ap (λ h. with_site home.site h older) gives_so ∙ own_line (settles home tid told.decision) older
@@ -157,7 +157,7 @@ module _ (scenario : Scenario) (commands : List Command) (home : Home) (tid : Ti
   ends_doubt law = record {
     decision = told.decision;
     settles = ap answer_of gives_so;
-    outcome = law scenario (given scenario home.site tid commands) home.site home declared tid told.decision (subst (λ p. Settles p tid told.decision) (sym past_given) (inl refl));
+    outcome = law scenario (answer_given scenario home.site tid commands) home.site home declared tid told.decision (subst (λ p. Settles p tid told.decision) (sym past_given) (inl refl));
     settled =
         ap (λ p. doubt_of (records home p) tid) past_given
         ∙ (ap (λ rs. doubt_of rs tid) (settles-records home (past_of home.site (story_of scenario (taken scenario home.site tid commands))) tid told.decision) ∙ cond-true _ _ _ (same_tid-refl tid));

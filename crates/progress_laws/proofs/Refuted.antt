@@ -10,7 +10,7 @@ use Rattle.fed_rules.specs.Story.{most_attempts}
 use Rattle.fed_rules.proofs.Opened.{opened}
 use Rattle.fed_rules.proofs.Spelled.{at, tid, set, site, step_at, global, scenario_of, go, give, take}
 use Rattle.closing_laws.specs.Finished.{begun}
-use Rattle.progress_laws.specs.Progress.{given, taken}
+use Rattle.progress_laws.specs.Progress.{answer_given, taken}
 use Rattle.progress_laws.specs.WrongRules.{LeavesADoubt, LeavesADoubtUndecided, LeavesUncommitted, LeavesUnsettled, closed_alone}
 
 abbrev one_site : Scenario
@@ -36,7 +36,7 @@ still_in_doubt =
       still = refl;
     }
 
-pub undecided_still : LeavesADoubtUndecided given
+pub undecided_still : LeavesADoubtUndecided answer_given
 unfolding opened
 undecided_still =
     record {

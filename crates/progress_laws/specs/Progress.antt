@@ -53,8 +53,8 @@ asked site tid commands = Cmd.Ask site tid ∷ commands
 abbrev pub taken : Scenario → SiteId → Tid → List Command → List Command
 taken scenario site tid commands = Cmd.Take site (length (sent_from site (story_of scenario commands))) ∷ asked site tid commands
 
-abbrev pub given : Scenario → SiteId → Tid → List Command → List Command
-given scenario site tid commands =
+abbrev pub answer_given : Scenario → SiteId → Tid → List Command → List Command
+answer_given scenario site tid commands =
     Cmd.Give site (length (sent_to site (story_of scenario (asked site tid commands)))) ∷ taken scenario site tid commands
 
 -- the last one of the three is answered that the attempt settles, by its outcome, and behind it the site isn't in doubt of it
@@ -62,8 +62,8 @@ pub record EndsDoubt (scenario : Scenario) (home : Home) (tid : Tid) (commands :
   pub decision : Decision
   pub settles : answer_of (happens scenario (story_of scenario (taken scenario home.site tid commands))
       (Cmd.Give home.site (length (sent_to home.site (story_of scenario (asked home.site tid commands)))))) ≡ Say.Settles tid decision
-  pub outcome : decision ≡ outcome_in (story_of scenario (given scenario home.site tid commands)) tid
-  pub settled : doubt_of (records home (past_of home.site (story_of scenario (given scenario home.site tid commands)))) tid ≡ None
+  pub outcome : decision ≡ outcome_in (story_of scenario (answer_given scenario home.site tid commands)) tid
+  pub settled : doubt_of (records home (past_of home.site (story_of scenario (answer_given scenario home.site tid commands)))) tid ≡ None
 
 -- so it is of each attempt that a site is in doubt of, unless the coordinator hasn't decided it yet, whatever else is down, lost or on its way
 abbrev pub DoubtsEndInThree : Type 0

@@ -4,7 +4,7 @@ use Rattle.mdb_base.specs.declared.names.SiteId.{SiteId}
 use Rattle.mdb_base.specs.declared.names.Tid.{Tid}
 use Rattle.mdb_base.specs.declared.replies.Reply.{Reply}
 use Rattle.mdb_base.specs.Names.{same_tid}
-use Rattle.mdb_base.specs.Words.{Among, or_else, those, when, pick}
+use Rattle.mdb_base.specs.Words.{Among, or_else, those, when, given}
 use Rattle.mdb_base.proofs.NameLaws.{same_tid-equal}
 use Rattle.presumptions.specs.declared.Decision.{Decision}
 use Rattle.presumptions.specs.declared.Participant.{Participant}
@@ -175,10 +175,10 @@ module _ (protocols : List Participant) (rise : RiseBySite protocols) (found : L
   goes_when true x y p q = p refl
   goes_when false x y p q = q refl
 
-  goes_pick : {A : Type 0} (o : Option A) (none : CoordHappening) (some : A → CoordHappening) → Goes none.calls → ((v : A) → Goes (some v).calls) → Goes (pick o none some).calls
-  unfolding pick
-  goes_pick None none some p q = p
-  goes_pick (Some v) none some p q = q v
+  goes_given : {A : Type 0} (o : Option A) (none : CoordHappening) (some : A → CoordHappening) → Goes none.calls → ((v : A) → Goes (some v).calls) → Goes (given o some none).calls
+  unfolding given
+  goes_given None none some p q = p
+  goes_given (Some v) none some p q = q v
 
   never : {A : Type 0} (b : Bool) → b ≡ false → b ≡ true → A
   never b no_so so = let clash : true ≡ false = sym so ∙ no_so in cc
@@ -252,7 +252,7 @@ module _ (protocols : List Participant) (rise : RiseBySite protocols) (found : L
   answered_goes (Ev.Take site (From.Inquiry tid)) i = inquiry_goes site tid
   answered_goes (Ev.Again tid) i = again_goes tid
   answered_goes (Ev.Late tid) i = late_goes tid
-  answered_goes (Ev.Fate tx) i = goes_pick _ _ _ (goes_pick _ _ _ tt (λ t. tt)) (λ t. tt)
+  answered_goes (Ev.Fate tx) i = goes_given _ _ _ (goes_given _ _ _ tt (λ t. tt)) (λ t. tt)
   answered_goes (Ev.Halt c) i = tt
   answered_goes (Ev.Trip calls c) i = tt
   answered_goes Ev.Back i = back_goes

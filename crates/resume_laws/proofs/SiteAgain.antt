@@ -3,7 +3,7 @@ use Rattle.std.proofs.Common.{◌≡◌, ℕ, suc, ◌+◌, ◌≤◌, ◌<◌, 
 use Rattle.std.specs.Prelude.{nat_le}
 use Rattle.mdb_base.specs.declared.names.Tid.{Tid}
 use Rattle.mdb_base.specs.declared.names.Tx.{Tx}
-use Rattle.mdb_base.specs.Words.{Each, when, pick}
+use Rattle.mdb_base.specs.Words.{Each, when, given}
 use Rattle.presumptions.specs.declared.Decision.{Decision}
 use Rattle.presumptions.specs.Table.{forces}
 use Rattle.fed_rules.specs.declared.answers.Answer.TheVariants as Say
@@ -111,15 +111,15 @@ module _ (home : Home) (found : List SiteRecord) (most : ℕ) (past : SitePast) 
   goes_when true x y p q = p refl
   goes_when false x y p q = q refl
 
-  goes_pick : {A : Type 0} (o : Option A) (none : SiteHappening) (some : A → SiteHappening) → Goes none.calls → ((v : A) → o ≡ Some v → Goes (some v).calls) → Goes (pick o none some).calls
-  unfolding pick
-  goes_pick None none some p q = p
-  goes_pick (Some v) none some p q = q v refl
+  goes_given : {A : Type 0} (o : Option A) (none : SiteHappening) (some : A → SiteHappening) → Goes none.calls → ((v : A) → o ≡ Some v → Goes (some v).calls) → Goes (given o some none).calls
+  unfolding given
+  goes_given None none some p q = p
+  goes_given (Some v) none some p q = q v refl
 
   decide_goes : (tid : Tid) (decision : Decision) → Goes (of_decide home past tid decision).calls
   unfolding of_decide unheld settles
   decide_goes tid decision =
-      goes_pick (doubt_of (records home past) tid) _ _ (goes_pick (live home past tid) _ _ tt (λ run e. tt)) (λ held e. (ended tid decision held e, by_force (forces home.protocol decision)))
+      goes_given (doubt_of (records home past) tid) _ _ (goes_given (live home past tid) _ _ tt (λ run e. tt)) (λ held e. (ended tid decision held e, by_force (forces home.protocol decision)))
     where
       by_force : (b : Bool) → GoesSo home found (suc most) (after_call site_frame d (Append (Rec.Ended tid decision))) (cond b (Sync ∷ []) [])
       by_force true = tt
@@ -127,11 +127,11 @@ module _ (home : Home) (found : List SiteRecord) (most : ℕ) (past : SitePast) 
 
   ask_goes : (tid : Tid) → Goes (of_ask home past tid).calls
   unfolding of_ask
-  ask_goes tid = goes_pick (doubt_of (records home past) tid) _ _ tt (λ held e. tt)
+  ask_goes tid = goes_given (doubt_of (records home past) tid) _ _ tt (λ held e. tt)
 
   drop_goes : (tid : Tid) → Goes (of_drop home past tid).calls
   unfolding of_drop
-  drop_goes tid = goes_when (is_local past tid) _ _ (λ e. tt) (λ e. goes_pick (live home past tid) _ _ tt (λ run f. tt))
+  drop_goes tid = goes_when (is_local past tid) _ _ (λ e. tt) (λ e. goes_given (live home past tid) _ _ tt (λ run f. tt))
 
   back_goes : Goes (of_back home past).calls
   unfolding of_back
@@ -184,10 +184,10 @@ module _ (home : Home) (found : List SiteRecord) (most : ℕ) (past : SitePast) 
   up_when true x y p q = p
   up_when false x y p q = q
 
-  up_pick : {A : Type 0} (o : Option A) (none : SiteHappening) (some : A → SiteHappening) → Up none → ((v : A) → Up (some v)) → Up (pick o none some)
-  unfolding pick
-  up_pick None none some p q = p
-  up_pick (Some v) none some p q = q v
+  up_given : {A : Type 0} (o : Option A) (none : SiteHappening) (some : A → SiteHappening) → Up none → ((v : A) → Up (some v)) → Up (given o some none)
+  unfolding given
+  up_given None none some p q = p
+  up_given (Some v) none some p q = q v
 
   tripped_up : (t : Option Trip) (y : SiteHappening) → Up y → Up (tripped site_frame d t y)
   unfolding tripped stopped
@@ -196,7 +196,7 @@ module _ (home : Home) (found : List SiteRecord) (most : ℕ) (past : SitePast) 
 
   decide_up : (tid : Tid) (decision : Decision) → Up (of_decide home past tid decision)
   unfolding of_decide unheld settles
-  decide_up tid decision = up_pick (doubt_of (records home past) tid) _ _ (up_pick (live home past tid) _ _ a.up (λ run. a.up)) (λ held e. by_force (forces home.protocol decision) e)
+  decide_up tid decision = up_given (doubt_of (records home past) tid) _ _ (up_given (live home past tid) _ _ a.up (λ run. a.up)) (λ held e. by_force (forces home.protocol decision) e)
     where
       by_force : (b : Bool) → is_down past ≡ false
           → 1 ≤ epoch_of (after_calls site_frame d (Append (Rec.Ended tid decision) ∷ cond b (Sync ∷ []) [])).records
@@ -218,9 +218,9 @@ module _ (home : Home) (found : List SiteRecord) (most : ℕ) (past : SitePast) 
   line_up (Ev.Give (To.Take tid e n)) i = absurd i
   line_up (Ev.Give (To.Prepare tid e n)) i = absurd i
   line_up (Ev.Trip calls c) i = a.up
-  line_up (Ev.Ask tid) i = up_when (is_down past) _ _ a.up (tripped_up (trip past) _ (up_pick (doubt_of (records home past) tid) _ _ a.up (λ held. a.up)))
+  line_up (Ev.Ask tid) i = up_when (is_down past) _ _ a.up (tripped_up (trip past) _ (up_given (doubt_of (records home past) tid) _ _ a.up (λ held. a.up)))
   line_up (Ev.Drop tid) i =
-      up_when (is_down past) _ _ a.up (tripped_up (trip past) _ (up_when (is_local past tid) _ _ a.up (up_pick (live home past tid) _ _ a.up (λ run. a.up))))
+      up_when (is_down past) _ _ a.up (tripped_up (trip past) _ (up_when (is_local past tid) _ _ a.up (up_given (live home past tid) _ _ a.up (λ run. a.up))))
   line_up Ev.Back i = up_when (is_down past) _ _ (tripped_up (trip past) (of_back home past) back_up) a.up
   line_up Ev.Check i = up_when (is_down past) _ _ a.up (tripped_up (trip past) _ (up_when _ _ _ a.up a.up))
   line_up (Ev.Halt c) i = up_when (is_down past) _ _ a.up (λ e. cc)

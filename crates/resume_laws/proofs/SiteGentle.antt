@@ -3,7 +3,7 @@
 use Rattle.std.proofs.Common.{◌≡◌, ℕ, ◌+◌, Bool, true, false, cond, is_some, Option, Some, None, List, [], ◌∷◌, ◌++◌, length, refl, sym, ap, subst, ◌∙◌, inl, inr}
 use Rattle.mdb_base.specs.declared.names.Tid.{Tid}
 use Rattle.mdb_base.specs.Names.{same_tid}
-use Rattle.mdb_base.specs.Words.{when, pick}
+use Rattle.mdb_base.specs.Words.{when, given}
 use Rattle.mdb_base.proofs.NameLaws.{same_tid-refl}
 use Rattle.order_laws.specs.Chains.{In}
 use Rattle.presumptions.specs.declared.Decision.{Decision}
@@ -98,11 +98,11 @@ unfolding when
 gentle_when home here event true a b p q = p
 gentle_when home here event false a b p q = q
 
-gentle_pick : {A : Type 0} (home : Home) (here : SitePast) (event : SiteEvent) (o : Option A) (none : SiteHappening) (some : A → SiteHappening)
-    → (o ≡ None → Gentle home here event none) → ((a : A) → o ≡ Some a → Gentle home here event (some a)) → Gentle home here event (pick o none some)
-unfolding pick
-gentle_pick home here event None none some p q = p refl
-gentle_pick home here event (Some a) none some p q = q a refl
+gentle_given : {A : Type 0} (home : Home) (here : SitePast) (event : SiteEvent) (o : Option A) (none : SiteHappening) (some : A → SiteHappening)
+    → (o ≡ None → Gentle home here event none) → ((a : A) → o ≡ Some a → Gentle home here event (some a)) → Gentle home here event (given o some none)
+unfolding given
+gentle_given home here event None none some p q = p refl
+gentle_given home here event (Some a) none some p q = q a refl
 
 -- the records behind an Ended record, forced or not
 ended_records : (home : Home) (here : SitePast) (tid : Tid) (decision : Decision) (t : Bool)
@@ -163,14 +163,14 @@ decide_gentle : (home : Home) (here : SitePast) (tid : Tid) (decision : Decision
     → Gentle home here (Ev.Give (To.Decide tid decision)) (of_decide home here tid decision)
 unfolding of_decide
 decide_gentle home here tid decision none =
-    gentle_pick home here (Ev.Give (To.Decide tid decision)) (doubt_of (records home here) tid) _ _
-    (λ free. gentle_pick home here (Ev.Give (To.Decide tid decision)) (live home here tid) _ _ (λ e. unheld_gentle home here tid decision [] none free) (λ run e. unheld_gentle home here tid decision (Aborts tid ∷ []) none free))
+    gentle_given home here (Ev.Give (To.Decide tid decision)) (doubt_of (records home here) tid) _ _
+    (λ free. gentle_given home here (Ev.Give (To.Decide tid decision)) (live home here tid) _ _ (λ e. unheld_gentle home here tid decision [] none free) (λ run e. unheld_gentle home here tid decision (Aborts tid ∷ []) none free))
     (λ held e. settles_gentle home here tid decision held none e)
 
 ask_gentle : (home : Home) (here : SitePast) (tid : Tid) → trip here ≡ None → Gentle home here (Ev.Ask tid) (of_ask home here tid)
 unfolding of_ask is_settling
 ask_gentle home here tid none =
-    gentle_pick home here (Ev.Ask tid) (doubt_of (records home here) tid) _ _ (λ e. quiet_gentle home here (Ev.Ask tid) Say.Idle none refl refl)
+    gentle_given home here (Ev.Ask tid) (doubt_of (records home here) tid) _ _ (λ e. quiet_gentle home here (Ev.Ask tid) Say.Idle none refl refl)
     (λ held e. plain_gentle home here (record { event = Ev.Ask tid; answer = Say.Asks tid; sends = From.Inquiry tid ∷ []; calls = []; lines = [] }) none refl refl silent (λ g. refl))
   where
     silent : (g : Tid) → In (From.Ack g) (From.Inquiry tid ∷ []) → ⊥
@@ -181,7 +181,7 @@ drop_gentle : (home : Home) (here : SitePast) (tid : Tid) → trip here ≡ None
 unfolding of_drop is_settling
 drop_gentle home here tid none =
     gentle_when home here (Ev.Drop tid) (is_local here tid) _ _ (quiet_gentle home here (Ev.Drop tid) Say.Idle none refl refl)
-    (gentle_pick home here (Ev.Drop tid) (live home here tid) _ _ (λ e. quiet_gentle home here (Ev.Drop tid) Say.Idle none refl refl)
+    (gentle_given home here (Ev.Drop tid) (live home here tid) _ _ (λ e. quiet_gentle home here (Ev.Drop tid) Say.Idle none refl refl)
     (λ run e. plain_gentle home here (with_lines (Ev.Drop tid) (Say.Dropped tid) (Aborts tid ∷ [])) none refl refl (λ g i. i) (λ g. refl)))
 
 back_gentle : (home : Home) (here : SitePast) → trip here ≡ None → Gentle home here Ev.Back (of_back home here)

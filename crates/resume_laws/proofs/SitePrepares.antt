@@ -1,7 +1,7 @@
 -- In a session without transactions no site prepares anything: each Prepared record, and so each doubt, is of an attempt that a found record names.
 use Rattle.std.proofs.Common.{◌≡◌, ℕ, ◌+◌, nat_le, Bool, true, false, cond, Option, Some, None, List, [], ◌∷◌, ◌++◌, length, map, sym, subst, ◌∙◌, inl, inr}
 use Rattle.mdb_base.specs.declared.names.Tid.{Tid}
-use Rattle.mdb_base.specs.Words.{Each, pick, when, with_some}
+use Rattle.mdb_base.specs.Words.{Each, given, when, with_some}
 use Rattle.mdb_base.proofs.ListLaws.{append_each}
 use Rattle.order_laws.specs.Chains.{In}
 use Rattle.presumptions.specs.declared.Decision.{Decision}
@@ -109,10 +109,10 @@ module _ (P : Tid → Type 0) where
   appends_when true x y p q = p
   appends_when false x y p q = q
 
-  appends_pick : {A : Type 0} (o : Option A) (none : SiteHappening) (some : A → SiteHappening) → Appends none.calls → ((a : A) → Appends (some a).calls) → Appends (pick o none some).calls
-  unfolding pick
-  appends_pick None none some p q = p
-  appends_pick (Some a) none some p q = q a
+  appends_given : {A : Type 0} (o : Option A) (none : SiteHappening) (some : A → SiteHappening) → Appends none.calls → ((a : A) → Appends (some a).calls) → Appends (given o some none).calls
+  unfolding given
+  appends_given None none some p q = p
+  appends_given (Some a) none some p q = q a
 
   module _ (home : Home) (here : SitePast) where
     appends_tripped : (t : Option Trip) (y : SiteHappening) → Appends y.calls → Appends (tripped site_frame (disk home here) t y).calls
@@ -127,7 +127,7 @@ module _ (P : Tid → Type 0) where
     decide_appends : (tid : Tid) (decision : Decision) → Appends (of_decide home here tid decision).calls
     unfolding of_decide unheld settles
     decide_appends tid decision =
-        appends_pick (doubt_of (records home here) tid) _ _ (appends_pick (live home here tid) _ _ tt (λ run. tt)) (λ held. (tt, by_force (forces home.protocol decision)))
+        appends_given (doubt_of (records home here) tid) _ _ (appends_given (live home here tid) _ _ tt (λ run. tt)) (λ held. (tt, by_force (forces home.protocol decision)))
       where
         by_force : (b : Bool) → Appends (cond b (Sync ∷ []) [])
         by_force true = tt
@@ -148,8 +148,8 @@ module _ (P : Tid → Type 0) where
     line_appends (Ev.Give (To.Take tid e n)) i = absurd i
     line_appends (Ev.Give (To.Prepare tid e n)) i = absurd i
     line_appends (Ev.Trip calls cut) i = tt
-    line_appends (Ev.Ask tid) i = while_up (Ev.Ask tid) _ (appends_pick (doubt_of (records home here) tid) _ _ tt (λ held. tt))
-    line_appends (Ev.Drop tid) i = while_up (Ev.Drop tid) _ (appends_when (is_local here tid) _ _ tt (appends_pick (live home here tid) _ _ tt (λ run. tt)))
+    line_appends (Ev.Ask tid) i = while_up (Ev.Ask tid) _ (appends_given (doubt_of (records home here) tid) _ _ tt (λ held. tt))
+    line_appends (Ev.Drop tid) i = while_up (Ev.Drop tid) _ (appends_when (is_local here tid) _ _ tt (appends_given (live home here tid) _ _ tt (λ run. tt)))
     line_appends Ev.Back i = appends_when (is_down here) _ _ (appends_tripped (trip here) (of_back home here) back_appends) tt
     line_appends Ev.Check i = while_up Ev.Check _ (appends_when _ _ _ tt (tt, tt))
     line_appends (Ev.Halt cut) i = appends_when (is_down here) _ _ tt tt

@@ -2,7 +2,7 @@
 use Rattle.std.proofs.Common.{◌≡◌, ◌+◌, Bool, true, false, cond, Option, Some, None, List, [], ◌∷◌, ◌++◌, refl, sym, ap, subst, ◌∙◌, inl, inr}
 use Rattle.mdb_base.specs.declared.names.Tid.{Tid}
 use Rattle.mdb_base.specs.Names.{same_site}
-use Rattle.mdb_base.specs.Words.{Each, when, pick}
+use Rattle.mdb_base.specs.Words.{Each, when, given}
 use Rattle.mdb_base.proofs.OptionLaws.{some_parts}
 use Rattle.mdb_base.proofs.NameLaws.{same_site-equal}
 use Rattle.mdb_base.proofs.ListLaws.{append_each}
@@ -56,11 +56,11 @@ unfolding when
 tail_when home here true x y p q = p
 tail_when home here false x y p q = q
 
-tail_pick : {A : Type 0} (home : Home) (here : SitePast) (o : Option A) (none : SiteHappening) (some : A → SiteHappening) → Tail home (records home here) (none ∷ here)
-    → ((a : A) → Tail home (records home here) (some a ∷ here)) → Tail home (records home here) (pick o none some ∷ here)
-unfolding pick
-tail_pick home here None none some p q = p
-tail_pick home here (Some a) none some p q = q a
+tail_given : {A : Type 0} (home : Home) (here : SitePast) (o : Option A) (none : SiteHappening) (some : A → SiteHappening) → Tail home (records home here) (none ∷ here)
+    → ((a : A) → Tail home (records home here) (some a ∷ here)) → Tail home (records home here) (given o some none ∷ here)
+unfolding given
+tail_given home here None none some p q = p
+tail_given home here (Some a) none some p q = q a
 
 settles_tail : (home : Home) (here : SitePast) (tid : Tid) (decision : Decision) → Tail home (records home here) (settles home tid decision ∷ here)
 unfolding settles
@@ -77,21 +77,21 @@ unheld_tail home here tid decision lines = record { news = []; is = refl; each =
 decide_tail : (home : Home) (here : SitePast) (tid : Tid) (decision : Decision) → Tail home (records home here) (of_decide home here tid decision ∷ here)
 unfolding of_decide
 decide_tail home here tid decision =
-    tail_pick home here (doubt_of (records home here) tid) _ _
-    (tail_pick home here (live home here tid) _ _ (unheld_tail home here tid decision []) (λ run. unheld_tail home here tid decision (Aborts tid ∷ [])))
+    tail_given home here (doubt_of (records home here) tid) _ _
+    (tail_given home here (live home here tid) _ _ (unheld_tail home here tid decision []) (λ run. unheld_tail home here tid decision (Aborts tid ∷ [])))
     (λ held. settles_tail home here tid decision)
 
 ask_tail : (home : Home) (here : SitePast) (tid : Tid) → Tail home (records home here) (of_ask home here tid ∷ here)
 unfolding of_ask
 ask_tail home here tid =
-    tail_pick home here (doubt_of (records home here) tid) _ _ (no_news home here (quiet (Ev.Ask tid) Say.Idle) refl)
+    tail_given home here (doubt_of (records home here) tid) _ _ (no_news home here (quiet (Ev.Ask tid) Say.Idle) refl)
     (λ held. no_news home here (record { event = Ev.Ask tid; answer = Say.Asks tid; sends = From.Inquiry tid ∷ []; calls = []; lines = [] }) refl)
 
 drop_tail : (home : Home) (here : SitePast) (tid : Tid) → Tail home (records home here) (of_drop home here tid ∷ here)
 unfolding of_drop
 drop_tail home here tid =
     tail_when home here (is_local here tid) _ _ (no_news home here (quiet (Ev.Drop tid) Say.Idle) refl)
-    (tail_pick home here (live home here tid) _ _ (no_news home here (quiet (Ev.Drop tid) Say.Idle) refl) (λ run. no_news home here (with_lines (Ev.Drop tid) (Say.Dropped tid) (Aborts tid ∷ [])) refl))
+    (tail_given home here (live home here tid) _ _ (no_news home here (quiet (Ev.Drop tid) Say.Idle) refl) (λ run. no_news home here (with_lines (Ev.Drop tid) (Say.Dropped tid) (Aborts tid ∷ [])) refl))
 
 back_tail : (home : Home) (here : SitePast) → Tail home (records home here) (of_back home here ∷ here)
 unfolding of_back

@@ -4,7 +4,7 @@ use Rattle.mdb_base.specs.declared.names.SiteId.{SiteId}
 use Rattle.mdb_base.specs.declared.names.Tid.{Tid}
 use Rattle.mdb_base.specs.declared.names.Tx.{Tx}
 use Rattle.mdb_base.specs.Names.{same_tid}
-use Rattle.mdb_base.specs.Words.{when, pick, item_at, some_of}
+use Rattle.mdb_base.specs.Words.{when, given, item_at, some_of}
 use Rattle.fed_rules.specs.declared.answers.Answer.{Answer}
 use Rattle.fed_rules.specs.declared.answers.Answer.TheVariants as Say
 use Rattle.fed_rules.specs.declared.commands.Command.{Command}
@@ -23,7 +23,7 @@ use Rattle.fed_rules.specs.SiteRecords.{Home}
 use Rattle.fed_rules.specs.Story.{Story, Happened, Nowhere, past_of, coord_past, sent_to, sent_from, happens, at_site, at_coordinator, requested, coord_requested, on_local, on_fate, on_go, on_attempt, on_site, on_give, on_take, on_actor}
 use Rattle.rules_laws.specs.Lines.{IsAsked, SiteCause, CoordCause, IsLine, EachLineIsAskedFor}
 use Rattle.rules_laws.proofs.Declared.{home-again, its-site, local-declared}
-use Rattle.rules_laws.proofs.SiteRequests.{asks, submits-parts, pick-submits, when-submits}
+use Rattle.rules_laws.proofs.SiteRequests.{asks, submits-parts, given-submits, when-submits}
 
 record Follows (scenario : Scenario) (story : Story) (command : Command) (happened : Happened) : Type 0 where
   line : IsLine scenario story command happened
@@ -39,10 +39,10 @@ module _ (scenario : Scenario) (story : Story) (command : Command) where
   at-home home event declared cause =
       record { line = record { home = home; declared = declared; here = refl; event = event; is_next = refl; cause = cause } }
 
-  follows_pick : {A : Type 0} (o : Option A) (none : Happened) (some : A → Happened) → Follows scenario story command none → ((x : A) → o ≡ Some x → Follows scenario story command (some x)) → Follows scenario story command (pick o none some)
-  unfolding pick
-  follows_pick None none some p q = p
-  follows_pick (Some x) none some p q = q x refl
+  follows_given : {A : Type 0} (o : Option A) (none : Happened) (some : A → Happened) → Follows scenario story command none → ((x : A) → o ≡ Some x → Follows scenario story command (some x)) → Follows scenario story command (given o some none)
+  unfolding given
+  follows_given None none some p q = p
+  follows_given (Some x) none some p q = q x refl
 
   of_request : (home : Home) (r : Request SiteEvent) → home_of scenario home.site ≡ Some home → ((event : SiteEvent) → r ≡ Submits event → SiteCause scenario home story command event) → Follows scenario story command (requested home story r)
   of_request home (Submits event) declared cause = at-home home event declared (cause event refl)
@@ -56,14 +56,14 @@ module _ (scenario : Scenario) (story : Story) (command : Command) where
       → ((home : Home) (event : SiteEvent) → IsAsked verb scenario home (past_of home.site story) tx event → SiteCause scenario home story command event) → Follows scenario story command (on_local scenario story verb tx other)
   unfolding on_local
   of_local verb tx other p q =
-      follows_pick (local_home scenario tx) _ _ p (λ home here.
+      follows_given (local_home scenario tx) _ _ p (λ home here.
       of_request home (request verb home (program_of scenario tx) (past_of home.site story) tx) (local-declared scenario tx home here) (λ event e.
       q home event (record { here = here; asks = asks verb home (program_of scenario tx) (past_of home.site story) tx event e })))
 
   of_site : (s : SiteId) (event : SiteEvent) → ((home : Home) → s ≡ home.site → SiteCause scenario home story command event) → Follows scenario story command (on_site scenario story s event)
   unfolding on_site
   of_site s event cause =
-      follows_pick (home_of scenario s) _ _ (nowhere _) (λ home found.
+      follows_given (home_of scenario s) _ _ (nowhere _) (λ home found.
       at-home home event (home-again scenario s home found) (cause home (sym (its-site scenario s home found))))
 
   of_attempt : (tid : Tid) (event : CoordEvent) → CoordCause scenario story command event → Follows scenario story command (on_attempt scenario story tid event)
@@ -84,28 +84,28 @@ unfolding on_fate fate_request
 of_fate scenario story tx =
     of_local scenario story (Cmd.Fate tx) Fate tx _
     (of_coord_request scenario story (Cmd.Fate tx) (fate_request (global_program scenario tx) tx) (λ event e.
-    let (steps, program, is) = pick-submits (global_program scenario tx) _ _ event e in record { steps = steps; program = program; is = sym (submits-parts is) }))
+    let (steps, program, is) = given-submits (global_program scenario tx) _ _ event e in record { steps = steps; program = program; is = sym (submits-parts is) }))
     (λ home event asked. asked)
 
 of_go : (scenario : Scenario) (story : Story) (tx : Tx) → Follows scenario story (Cmd.Go tx) (on_go scenario story tx)
 unfolding on_go go_request go_next
 of_go scenario story tx =
     of_coord_request scenario story (Cmd.Go tx) (go_request (protocols scenario) (policy scenario) (global_program scenario tx) (coord_past story) tx) (λ event e.
-    let (steps, program, e1) = pick-submits (global_program scenario tx) _ _ event e in
+    let (steps, program, e1) = given-submits (global_program scenario tx) _ _ event e in
     let (few, is) = when-submits _ _ _ event e1 in
     record { steps = steps; program = program; is = sym (submits-parts is) })
 
 of_give : (scenario : Scenario) (story : Story) (s : SiteId) (place : ℕ) → Follows scenario story (Cmd.Give s place) (on_give scenario story s place)
 unfolding on_give
 of_give scenario story s place =
-    follows_pick scenario story (Cmd.Give s place) (item_at (sent_to s story) place) _ _ (nowhere scenario story (Cmd.Give s place) _) (λ message f.
+    follows_given scenario story (Cmd.Give s place) (item_at (sent_to s story) place) _ _ (nowhere scenario story (Cmd.Give s place) _) (λ message f.
     of_site scenario story (Cmd.Give s place) s (To_site.Give message) (λ home here.
     (here, record { message = message; at = subst (λ site. item_at (sent_to site story) place ≡ Some message) here f; is = refl })))
 
 of_take : (scenario : Scenario) (story : Story) (s : SiteId) (place : ℕ) → Follows scenario story (Cmd.Take s place) (on_take scenario story s place)
 unfolding on_take
 of_take scenario story s place =
-    follows_pick scenario story (Cmd.Take s place) (item_at (sent_from s story) place) _ _ (nowhere scenario story (Cmd.Take s place) _) (λ message f.
+    follows_given scenario story (Cmd.Take s place) (item_at (sent_from s story) place) _ _ (nowhere scenario story (Cmd.Take s place) _) (λ message f.
     at-coordinator scenario story (Cmd.Take s place) (To_coord.Take s message) (record { message = message; at = f; is = refl }))
 
 follows : (scenario : Scenario) (story : Story) (command : Command) → Follows scenario story command (happens scenario story command)

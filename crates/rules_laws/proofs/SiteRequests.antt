@@ -4,7 +4,7 @@ use Rattle.std.specs.Prelude.{nat_le}
 use Rattle.mdb_base.specs.declared.acts.Step.{Step}
 use Rattle.mdb_base.specs.declared.names.Tid.{Tid}
 use Rattle.mdb_base.specs.declared.names.Tx.{Tx}
-use Rattle.mdb_base.specs.Words.{when, pick, item_at}
+use Rattle.mdb_base.specs.Words.{when, given, item_at}
 use Rattle.fed_rules.specs.declared.answers.Answer.{Answer}
 use Rattle.fed_rules.specs.declared.events.SiteEvent.{SiteEvent}
 use Rattle.fed_rules.specs.declared.events.SiteEvent.TheVariants as Ev
@@ -24,10 +24,10 @@ when-submits true answer r event e = cc
 when-submits false answer r event e = (refl, e)
 
 -- what declines without a value submits with one
-pub pick-submits : {A Event : Type 0} (o : Option A) (answer : Answer) (f : A → Request Event) (event : Event) → pick o (Declines answer) f ≡ Submits event → (x : A) × (o ≡ Some x) × (f x ≡ Submits event)
-unfolding pick
-pick-submits None answer f event e = cc
-pick-submits (Some x) answer f event e = (x, refl, e)
+pub given-submits : {A Event : Type 0} (o : Option A) (answer : Answer) (f : A → Request Event) (event : Event) → given o f (Declines answer) ≡ Submits event → (x : A) × (o ≡ Some x) × (f x ≡ Submits event)
+unfolding given
+given-submits None answer f event e = cc
+given-submits (Some x) answer f event e = (x, refl, e)
 
 pub submits-parts : {Event : Type 0} {x y : Event} → Submits x ≡ Submits y → x ≡ y
 submits-parts e = cc
@@ -44,15 +44,15 @@ pub live_asks : (home : Home) (past : SitePast) (tx : Tx) (next : Tid → Run �
 unfolding with_live
 live_asks home past tx next event e =
     let (up, e1) = when-submits (is_down past) _ _ event e in
-    let (tid, found, e2) = pick-submits (live_of_tx home past tx) _ _ event e1 in
-    let (run, own, e3) = pick-submits (live home past tid) _ (next tid) event e2 in
+    let (tid, found, e2) = given-submits (live_of_tx home past tx) _ _ event e1 in
+    let (run, own, e3) = given-submits (live home past tid) _ (next tid) event e2 in
     (tid, run, record { up = up; found = found; own = own }, e3)
 
 step_asks : (home : Home) (steps : List Step) (past : SitePast) (tx : Tx) (event : SiteEvent) → with_live home past tx (next_step steps) ≡ Submits event → StepsOn home steps past tx event
 unfolding next_step
 step_asks home steps past tx event e =
     let (tid, run, is_live, e1) = live_asks home past tx (next_step steps) event e in
-    let (step, next, is) = pick-submits (item_at steps (done run)) _ _ event e1 in
+    let (step, next, is) = given-submits (item_at steps (done run)) _ _ event e1 in
     record { tid = tid; run = run; is_live = is_live; step = step; next = next; is = sym (submits-parts is) }
 
 commit_asks : (home : Home) (steps : List Step) (past : SitePast) (tx : Tx) (event : SiteEvent) → with_live home past tx (when_done steps) ≡ Submits event → CommitsDone home steps past tx event

@@ -11,7 +11,7 @@ use Rattle.mdb_base.specs.Names.{same_site, same_key}
 use Rattle.mdb_base.specs.declared.program.Next.{Next}
 use Rattle.mdb_base.specs.Programs.{plain_act, is_get, next_of, reads_of}
 use Rattle.mdb_base.specs.Rows.{Table}
-use Rattle.mdb_base.specs.Words.{item_at, or_else, pick, some_of}
+use Rattle.mdb_base.specs.Words.{given, item_at, or_else, some_of}
 use Rattle.fed_rules.specs.Serial.{Tables, Ran, alone, run_steps, reads_after, tables_after, update}
 use Rattle.serial_machine.specs.AllTables.{value_at, tables_of, writes_at}
 use Rattle.serial_machine.specs.Runs.{ReachesAlone}
@@ -152,10 +152,10 @@ writes_on program done old now new reads x key value reached at is_write written
 -- the step that comes next
 pub next_is : (program : List Step) (done : ℕ) (reads : List ℕ) (next : Next) → next_of program done reads ≡ Some next
     → (x : Step) × ((item_at program done ≡ Some x) × ((x.site ≡ next.site) × (plain_act reads x.act ≡ next.act)))
-unfolding pick
+unfolding given
 next_is program done reads next e = by_item (item_at program done) refl e
   where
-    by_item : (o : Option Step) → item_at program done ≡ o → pick {B = Option Next} o None (λ step. Some (record { site = step.site; act = plain_act reads step.act })) ≡ Some next
+    by_item : (o : Option Step) → item_at program done ≡ o → given {B = Option Next} o (λ step. Some (record { site = step.site; act = plain_act reads step.act })) None ≡ Some next
         → (x : Step) × ((item_at program done ≡ Some x) × ((x.site ≡ next.site) × (plain_act reads x.act ≡ next.act)))
     by_item None is same = let none : None ≡ Some next = same in absurd cc
     by_item (Some x) is same =
@@ -170,9 +170,9 @@ item_comes (x ∷ xs) (suc n) lt e = item_comes xs n (omega (arith, lt)) e
 
 -- before the end there is a next step
 pub next_comes : (program : List Step) (done : ℕ) (reads : List ℕ) → done < length program → next_of program done reads ≡ None → ⊥
-unfolding pick
+unfolding given
 next_comes program done reads lt e = by_item (item_at program done) refl e
   where
-    by_item : (o : Option Step) → item_at program done ≡ o → pick {B = Option Next} o None (λ step. Some (record { site = step.site; act = plain_act reads step.act })) ≡ None → ⊥
+    by_item : (o : Option Step) → item_at program done ≡ o → given {B = Option Next} o (λ step. Some (record { site = step.site; act = plain_act reads step.act })) None ≡ None → ⊥
     by_item None is same = item_comes program done lt is
     by_item (Some x) is same = let next : Next = record { site = x.site; act = plain_act reads x.act } in let some : Some next ≡ None = same in absurd cc

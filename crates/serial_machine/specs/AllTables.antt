@@ -42,9 +42,9 @@ abbrev pub value_there : SiteId → List Put → SiteId → Key → Option ℕ
 value_there of rows site key = cond (same_site of site) (value_in rows key) None
 
 -- the value of a key in the given rows of a site
-abbrev pub given : List SiteRows → SiteId → Key → Option ℕ
-given [] site key = None
-given (first ∷ more) site key = first_of (value_there first.site first.rows site key) (given more site key)
+abbrev pub given_value : List SiteRows → SiteId → Key → Option ℕ
+given_value [] site key = None
+given_value (first ∷ more) site key = first_of (value_there first.site first.rows site key) (given_value more site key)
 
 -- whether a step writes this key at this site
 abbrev pub writes_at : SiteId → Key → Step → Bool

@@ -6,7 +6,7 @@ ghost use Rattle.mdb_base.specs.declared.names.SiteId.{SiteId};
 ghost use Rattle.mdb_base.specs.Rising.{IsRising};
 ghost use Rattle.mdb_base.specs.Rows.{HaveOwnKeys, value_in};
 ghost use Rattle.mdb_base.specs.Names.{same_site, same_key};
-ghost use Rattle.serial_machine.specs.AllTables.{value_at, value_there, tables_of, first_of, given, SameRows};
+ghost use Rattle.serial_machine.specs.AllTables.{value_at, value_there, tables_of, first_of, given_value, SameRows};
 
 use mdb_base::{Key, Memory, Put, Puts, SiteId, SiteRows, sort_rows};
 use std::alloc::Global;
@@ -21,7 +21,7 @@ pub struct AllTables {
 impl AllTables {
     /// The tables of these rows, given site by site.
     pub fn new(alloc: Global, sites: &[SiteRows]) -> Result<AllTables, Memory>
-        ensures { IfOk result (λ tables. (site : SiteId) (key : Key) → value_at tables site key ≡ given sites.now site key) }
+        ensures { IfOk result (λ tables. (site : SiteId) (key : Key) → value_at tables site key ≡ given_value sites.now site key) }
     {
         let mut tables = AllTables {
             values: HashMap::new(alloc),

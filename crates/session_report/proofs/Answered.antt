@@ -5,7 +5,7 @@ use Rattle.mdb_base.specs.declared.names.Tid.{Tid}
 use Rattle.mdb_base.specs.declared.names.Tx.{Tx}
 use Rattle.mdb_base.specs.declared.replies.Reply.{Reply}
 use Rattle.mdb_base.specs.declared.replies.Why.{Why}
-use Rattle.mdb_base.specs.Words.{when, pick}
+use Rattle.mdb_base.specs.Words.{when, given}
 use Rattle.presumptions.specs.declared.Decision.{Decision}
 use Rattle.fed_rules.specs.declared.answers.Answer.{Answer}
 use Rattle.fed_rules.specs.declared.answers.Answer.TheVariants as Say
@@ -29,10 +29,10 @@ pub record Says (home : Home) (past : SitePast) (event : SiteEvent) (x : SiteHap
   pub begins : BeginsSo home past event x.answer
 
 module _ (home : Home) (past : SitePast) (event : SiteEvent) where
-  says_pick : {A : Type 0} (o : Option A) (none : SiteHappening) (some : A → SiteHappening) → (o ≡ None → Says home past event none) → ((z : A) → Says home past event (some z)) → Says home past event (pick o none some)
-  unfolding pick
-  says_pick None none some p q = p refl
-  says_pick (Some z) none some p q = q z
+  says_given : {A : Type 0} (o : Option A) (none : SiteHappening) (some : A → SiteHappening) → (o ≡ None → Says home past event none) → ((z : A) → Says home past event (some z)) → Says home past event (given o some none)
+  unfolding given
+  says_given None none some p q = p refl
+  says_given (Some z) none some p q = q z
 
   says_when : (b : Bool) (x y : SiteHappening) → Says home past event x → Says home past event y → Says home past event (when b x y)
   unfolding when
@@ -58,33 +58,33 @@ module _ (home : Home) (past : SitePast) where
   says_begin : (t : Tid) → Says home past (Ev.Begin t) (of_begin home past t)
   unfolding of_begin
   says_begin t =
-      says_pick home past _ _ _ _ (λ e. says_pick home past _ _ _ _ (λ none. plain refl (refl, none)) (λ r. plain refl tt)) (λ c. plain refl tt)
+      says_given home past _ _ _ _ (λ e. says_given home past _ _ _ _ (λ none. plain refl (refl, none)) (λ r. plain refl tt)) (λ c. plain refl tt)
 
   says_work : (t : Tid) (e n : ℕ) (act : PlainAct) → Says home past (Ev.Give (To.Work t e n act)) (of_work home past t e n act)
   unfolding of_work work_live first_work next_work repeated unknown did
   says_work t e n act =
       says_when home past _ _ _ _ (plain refl tt)
-      (says_pick home past _ _ _ _ (λ none. says_when home past _ _ _ _ (plain refl tt) (plain refl tt))
+      (says_given home past _ _ _ _ (λ none. says_when home past _ _ _ _ (plain refl tt) (plain refl tt))
       (λ run. says_when home past _ _ _ _ (plain refl tt) (says_when home past _ _ _ _ (plain refl tt) (says_when home past _ _ _ _ (plain refl tt) (plain refl tt)))))
 
   says_take : (t : Tid) (e n : ℕ) → Says home past (Ev.Give (To.Take t e n)) (of_take home past t e n)
   unfolding of_take take_live next_take repeated unknown did
   says_take t e n =
       says_when home past _ _ _ _ (plain refl tt)
-      (says_pick home past _ _ _ _ (λ none. plain refl tt)
+      (says_given home past _ _ _ _ (λ none. plain refl tt)
       (λ run. says_when home past _ _ _ _ (plain refl tt) (says_when home past _ _ _ _ (plain refl tt) (says_when home past _ _ _ _ (plain refl tt) (plain refl tt)))))
 
   says_prepare : (t : Tid) (e n : ℕ) → Says home past (Ev.Give (To.Prepare t e n)) (of_prepare home past t e n)
   unfolding of_prepare prepare_live seals_global votes_again votes_no votes_yes
   says_prepare t e n =
-      says_pick home past _ _ _ _
-      (λ none. says_pick home past _ _ _ _ (λ gone. plain refl tt)
-      (λ run. says_when home past _ _ _ _ (says_pick home past _ _ _ _ (λ no. plain refl tt) (λ ticket. says_pick home past _ _ _ _ (λ no. plain refl tt) (λ why. plain refl tt))) (plain refl tt)))
+      says_given home past _ _ _ _
+      (λ none. says_given home past _ _ _ _ (λ gone. plain refl tt)
+      (λ run. says_when home past _ _ _ _ (says_given home past _ _ _ _ (λ no. plain refl tt) (λ ticket. says_given home past _ _ _ _ (λ no. plain refl tt) (λ why. plain refl tt))) (plain refl tt)))
       (λ held. says_when home past _ _ _ _ (plain refl tt) (plain refl tt))
 
   says_decide : (t : Tid) (decision : Decision) → Says home past (Ev.Give (To.Decide t decision)) (of_decide home past t decision)
   unfolding of_decide unheld settles
-  says_decide t decision = says_pick home past _ _ _ _ (λ none. says_pick home past _ _ _ _ (λ gone. plain refl tt) (λ run. plain refl tt)) (λ held. plain refl tt)
+  says_decide t decision = says_given home past _ _ _ _ (λ none. says_given home past _ _ _ _ (λ gone. plain refl tt) (λ run. plain refl tt)) (λ held. plain refl tt)
 
   says_give : (message : ToSite) → Says home past (Ev.Give message) (of_give home past message)
   unfolding of_give
@@ -100,15 +100,15 @@ module _ (home : Home) (past : SitePast) where
   says_answered : (event : SiteEvent) → Says home past event (answered home past event)
   unfolding answered of_act of_commit seals_local of_abort of_fate of_ask of_drop of_back of_check
   says_answered (Ev.Begin t) = says_begin t
-  says_answered (Ev.Act t act) = says_pick home past _ _ _ _ (λ none. plain refl tt) (λ run. plain refl (act_says home past (Ev.Act t act) t (reply_to home past run act) act))
+  says_answered (Ev.Act t act) = says_given home past _ _ _ _ (λ none. plain refl tt) (λ run. plain refl (act_says home past (Ev.Act t act) t (reply_to home past run act) act))
   says_answered (Ev.Commit t) =
-      says_pick home past _ _ _ _ (λ none. plain refl tt) (λ run. says_pick home past _ _ _ _ (λ free. plain refl tt) (λ why. plain refl (refusal_says home past (Ev.Commit t) why)))
-  says_answered (Ev.Abort t) = says_pick home past _ _ _ _ (λ none. plain refl tt) (λ run. plain refl tt)
+      says_given home past _ _ _ _ (λ none. plain refl tt) (λ run. says_given home past _ _ _ _ (λ free. plain refl tt) (λ why. plain refl (refusal_says home past (Ev.Commit t) why)))
+  says_answered (Ev.Abort t) = says_given home past _ _ _ _ (λ none. plain refl tt) (λ run. plain refl tt)
   says_answered (Ev.Fate tx) =
-      says_pick home past _ _ _ _ (λ none. says_pick home past _ _ _ _ (λ gone. plain refl (says_fate tx (attempts_of past tx == 0))) (λ r. plain refl tt)) (λ c. plain refl tt)
+      says_given home past _ _ _ _ (λ none. says_given home past _ _ _ _ (λ gone. plain refl (says_fate tx (attempts_of past tx == 0))) (λ r. plain refl tt)) (λ c. plain refl tt)
   says_answered (Ev.Give message) = says_give message
-  says_answered (Ev.Ask t) = says_pick home past _ _ _ _ (λ none. plain refl tt) (λ held. plain refl tt)
-  says_answered (Ev.Drop t) = says_when home past _ _ _ _ (plain refl tt) (says_pick home past _ _ _ _ (λ none. plain refl tt) (λ run. plain refl tt))
+  says_answered (Ev.Ask t) = says_given home past _ _ _ _ (λ none. plain refl tt) (λ held. plain refl tt)
+  says_answered (Ev.Drop t) = says_when home past _ _ _ _ (plain refl tt) (says_given home past _ _ _ _ (λ none. plain refl tt) (λ run. plain refl tt))
   says_answered (Ev.Halt cut) = plain refl tt
   says_answered (Ev.Trip calls cut) = plain refl tt
   says_answered Ev.Back = plain refl tt

@@ -2,7 +2,7 @@
 use Rattle.std.proofs.Common.{◌≡◌, ◌+◌, Bool, true, false, cond, Option, Some, None, List, [], ◌∷◌, ◌++◌, refl}
 use Rattle.mdb_base.specs.declared.acts.PlainAct.{PlainAct}
 use Rattle.mdb_base.specs.declared.names.Tid.{Tid}
-use Rattle.mdb_base.specs.Words.{when, pick}
+use Rattle.mdb_base.specs.Words.{when, given}
 use Rattle.presumptions.specs.declared.Decision.{Decision}
 use Rattle.presumptions.specs.Table.{forces}
 use Rattle.fed_rules.specs.declared.events.SiteEvent.{SiteEvent}
@@ -32,10 +32,10 @@ pub data Forms : List (Call SiteRecord) → Type 0 where
 pub record HasForm (x : SiteHappening) : Type 0 where
   pub form : Forms x.calls
 
-form_pick : {A : Type 0} (o : Option A) (x : SiteHappening) (some : A → SiteHappening) → HasForm x → ((z : A) → HasForm (some z)) → HasForm (pick o x some)
-unfolding pick
-form_pick None x some p q = p
-form_pick (Some z) x some p q = q z
+form_given : {A : Type 0} (o : Option A) (x : SiteHappening) (some : A → SiteHappening) → HasForm x → ((z : A) → HasForm (some z)) → HasForm (given o some x)
+unfolding given
+form_given None x some p q = p
+form_given (Some z) x some p q = q z
 
 form_when : (b : Bool) (x y : SiteHappening) → HasForm x → HasForm y → HasForm (when b x y)
 unfolding when
@@ -47,22 +47,22 @@ module _ (home : Home) (past : SitePast) where
   unfolding of_work work_live first_work next_work repeated unknown did
   form_work t e n act =
       form_when _ _ _ (record { form = none })
-      (form_pick _ _ _ (form_when _ _ _ (record { form = none }) (record { form = none }))
+      (form_given _ _ _ (form_when _ _ _ (record { form = none }) (record { form = none }))
       (λ run. form_when _ _ _ (record { form = none }) (form_when _ _ _ (record { form = none }) (form_when _ _ _ (record { form = none }) (record { form = none })))))
 
   form_take : (t : Tid) (e n : _) → HasForm (of_take home past t e n)
   unfolding of_take take_live next_take repeated unknown did
   form_take t e n =
       form_when _ _ _ (record { form = none })
-      (form_pick _ _ _ (record { form = none })
+      (form_given _ _ _ (record { form = none })
       (λ run. form_when _ _ _ (record { form = none }) (form_when _ _ _ (record { form = none }) (form_when _ _ _ (record { form = none }) (record { form = none })))))
 
   form_prepare : (t : Tid) (e n : _) → HasForm (of_prepare home past t e n)
   unfolding of_prepare prepare_live seals_global votes_again votes_no votes_yes
   form_prepare t e n =
-      form_pick _ _ _
-      (form_pick _ _ _ (record { form = none })
-      (λ run. form_when _ _ _ (form_pick _ _ _ (record { form = none }) (λ ticket. form_pick _ _ _ (record { form = forces_one _ }) (λ why. record { form = none }))) (record { form = none })))
+      form_given _ _ _
+      (form_given _ _ _ (record { form = none })
+      (λ run. form_when _ _ _ (form_given _ _ _ (record { form = none }) (λ ticket. form_given _ _ _ (record { form = forces_one _ }) (λ why. record { form = none }))) (record { form = none })))
       (λ held. form_when _ _ _ (record { form = none }) (record { form = none }))
 
   ended_form : (t : Tid) (decision : Decision) (forced : Bool) → Forms (Append (Rec.Ended t decision) ∷ cond forced (Sync ∷ []) [])
@@ -72,7 +72,7 @@ module _ (home : Home) (past : SitePast) where
   form_decide : (t : Tid) (decision : Decision) → HasForm (of_decide home past t decision)
   unfolding of_decide unheld settles
   form_decide t decision =
-      form_pick _ _ _ (form_pick _ _ _ (record { form = none }) (λ run. record { form = none }))
+      form_given _ _ _ (form_given _ _ _ (record { form = none }) (λ run. record { form = none }))
       (λ held. record { form = ended_form t decision (forces home.protocol decision) })
 
   form_give : (message : ToSite) → HasForm (of_give home past message)
@@ -94,14 +94,14 @@ module _ (home : Home) (past : SitePast) where
   -- what a site that is up answers
   pub form_answered : (event : SiteEvent) → HasForm (answered home past event)
   unfolding answered of_begin of_act of_commit seals_local of_abort of_fate of_ask of_drop of_check
-  form_answered (Ev.Begin t) = form_pick _ _ _ (form_pick _ _ _ (record { form = none }) (λ r. record { form = none })) (λ c. record { form = none })
-  form_answered (Ev.Act t act) = form_pick _ _ _ (record { form = none }) (λ run. record { form = none })
-  form_answered (Ev.Commit t) = form_pick _ _ _ (record { form = none }) (λ run. form_pick _ _ _ (record { form = forces_one _ }) (λ why. record { form = none }))
-  form_answered (Ev.Abort t) = form_pick _ _ _ (record { form = none }) (λ run. record { form = none })
-  form_answered (Ev.Fate tx) = form_pick _ _ _ (form_pick _ _ _ (record { form = none }) (λ r. record { form = none })) (λ c. record { form = none })
+  form_answered (Ev.Begin t) = form_given _ _ _ (form_given _ _ _ (record { form = none }) (λ r. record { form = none })) (λ c. record { form = none })
+  form_answered (Ev.Act t act) = form_given _ _ _ (record { form = none }) (λ run. record { form = none })
+  form_answered (Ev.Commit t) = form_given _ _ _ (record { form = none }) (λ run. form_given _ _ _ (record { form = forces_one _ }) (λ why. record { form = none }))
+  form_answered (Ev.Abort t) = form_given _ _ _ (record { form = none }) (λ run. record { form = none })
+  form_answered (Ev.Fate tx) = form_given _ _ _ (form_given _ _ _ (record { form = none }) (λ r. record { form = none })) (λ c. record { form = none })
   form_answered (Ev.Give message) = form_give message
-  form_answered (Ev.Ask t) = form_pick _ _ _ (record { form = none }) (λ held. record { form = none })
-  form_answered (Ev.Drop t) = form_when _ _ _ (record { form = none }) (form_pick _ _ _ (record { form = none }) (λ run. record { form = none }))
+  form_answered (Ev.Ask t) = form_given _ _ _ (record { form = none }) (λ held. record { form = none })
+  form_answered (Ev.Drop t) = form_when _ _ _ (record { form = none }) (form_given _ _ _ (record { form = none }) (λ run. record { form = none }))
   form_answered (Ev.Halt cut) = record { form = none }
   form_answered (Ev.Trip calls cut) = record { form = none }
   form_answered Ev.Back = form_back

@@ -4,7 +4,7 @@ use Rattle.mdb_base.specs.declared.names.SiteId.{SiteId}
 use Rattle.mdb_base.specs.declared.names.Tid.{Tid}
 use Rattle.mdb_base.specs.declared.names.Tx.{Tx}
 use Rattle.mdb_base.specs.declared.replies.Reply.TheVariants as Reply_is
-use Rattle.mdb_base.specs.Words.{when, pick, item_at}
+use Rattle.mdb_base.specs.Words.{when, given, item_at}
 use Rattle.presumptions.specs.declared.Participant.{Participant}
 use Rattle.fed_rules.specs.declared.answers.Answer.{Answer}
 use Rattle.fed_rules.specs.declared.answers.Answer.TheVariants as Say
@@ -103,19 +103,19 @@ none_begins (Say.Decides decision cause forgets) = tt
 none_begins (Say.UpSite epoch doubtful) = tt
 none_begins (Say.UpCoord known) = tt
 
-silent_pick : {A : Type 0} (command : Command) (o : Option A) (none : Happened) (some : A → Happened) → Silent command none → ((z : A) → Silent command (some z)) → Silent command (pick o none some)
-unfolding pick
-silent_pick command None none some p q = p
-silent_pick command (Some z) none some p q = q z
+silent_given : {A : Type 0} (command : Command) (o : Option A) (none : Happened) (some : A → Happened) → Silent command none → ((z : A) → Silent command (some z)) → Silent command (given o some none)
+unfolding given
+silent_given command None none some p q = p
+silent_given command (Some z) none some p q = q z
 
 -- a request that is declined is declined silently
 record IsQuiet {Event : Type 0} (command : Command) (r : Request Event) : Type 0 where
   quiet : (answer : Answer) → r ≡ Declines answer → IsSilent command answer
 
-quiet_pick : {A Event : Type 0} (command : Command) (o : Option A) (none : Request Event) (some : A → Request Event) → IsQuiet command none → ((z : A) → IsQuiet command (some z)) → IsQuiet command (pick o none some)
-unfolding pick
-quiet_pick command None none some p q = p
-quiet_pick command (Some z) none some p q = q z
+quiet_given : {A Event : Type 0} (command : Command) (o : Option A) (none : Request Event) (some : A → Request Event) → IsQuiet command none → ((z : A) → IsQuiet command (some z)) → IsQuiet command (given o some none)
+unfolding given
+quiet_given command None none some p q = p
+quiet_given command (Some z) none some p q = q z
 
 quiet_when : {Event : Type 0} (command : Command) (b : Bool) (x y : Request Event) → IsQuiet command x → IsQuiet command y → IsQuiet command (when b x y)
 unfolding when
@@ -144,26 +144,26 @@ module _ (scenario : Scenario) (story : Story) where
   silent_begin : (tx : Tx) → Silent (Cmd.Begin tx) (on_local scenario story Begin tx (Nowhere Say.None))
   unfolding on_local request begin_next
   silent_begin tx =
-      silent_pick (Cmd.Begin tx) (local_home scenario tx) _ _ (record { silence = tt })
+      silent_given (Cmd.Begin tx) (local_home scenario tx) _ _ (record { silence = tt })
       (λ home. silent_request (Cmd.Begin tx) home _ (quiet_when (Cmd.Begin tx) _ _ _ (declined (Cmd.Begin tx) _ (none_begins _)) (submitted (Cmd.Begin tx) _)))
 
   silent_step : (tx : Tx) → Silent (Cmd.Step tx) (on_local scenario story Step_on tx (Nowhere Say.None))
   unfolding on_local request with_live next_step
   silent_step tx =
-      silent_pick (Cmd.Step tx) (local_home scenario tx) _ _ (record { silence = tt })
+      silent_given (Cmd.Step tx) (local_home scenario tx) _ _ (record { silence = tt })
       (λ home. silent_request (Cmd.Step tx) home _ (quiet_when (Cmd.Step tx) _ _ _ (declined (Cmd.Step tx) Say.Down tt)
-      (quiet_pick (Cmd.Step tx) _ _ _ (declined (Cmd.Step tx) Say.Idle tt) (λ tid. quiet_pick (Cmd.Step tx) _ _ _ (declined (Cmd.Step tx) Say.Idle tt)
-      (λ run. quiet_pick (Cmd.Step tx) _ _ _ (declined (Cmd.Step tx) Say.End tt) (λ step. submitted (Cmd.Step tx) _))))))
+      (quiet_given (Cmd.Step tx) _ _ _ (declined (Cmd.Step tx) Say.Idle tt) (λ tid. quiet_given (Cmd.Step tx) _ _ _ (declined (Cmd.Step tx) Say.Idle tt)
+      (λ run. quiet_given (Cmd.Step tx) _ _ _ (declined (Cmd.Step tx) Say.End tt) (λ step. submitted (Cmd.Step tx) _))))))
 
   silent_go : (tx : Tx) → Silent (Cmd.Go tx) (on_go scenario story tx)
   unfolding on_go go_request go_next
   silent_go tx =
-      silent_coord (Cmd.Go tx) _ (quiet_pick (Cmd.Go tx) (global_program scenario tx) _ _ (declined (Cmd.Go tx) Say.None tt)
+      silent_coord (Cmd.Go tx) _ (quiet_given (Cmd.Go tx) (global_program scenario tx) _ _ (declined (Cmd.Go tx) Say.None tt)
       (λ steps. quiet_when (Cmd.Go tx) _ _ _ (declined (Cmd.Go tx) _ (none_begins _)) (submitted (Cmd.Go tx) _)))
 
   silent_take : (site : SiteId) (place : ℕ) → Silent (Cmd.Take site place) (on_take scenario story site place)
   unfolding on_take
-  silent_take site place = silent_pick (Cmd.Take site place) (item_at (sent_from site story) place) _ _ (record { silence = refl }) (λ message. record { silence = tt })
+  silent_take site place = silent_given (Cmd.Take site place) (item_at (sent_from site story) place) _ _ (record { silence = refl }) (λ message. record { silence = tt })
 
   any_silent : (command : Command) (happened : Happened) → ((answer : Answer) → IsSilent command answer) → Silence command happened
   any_silent command (AtSite site x) s = tt

@@ -23,7 +23,7 @@ use Rattle.fed_rules.specs.Reopened.{site_opening}
 use Rattle.fed_rules.specs.SiteRecords.{Home, site_frame}
 use Rattle.site_core.specs.Made.{IsGoingOn, IsOpened, begins_tid, is_of_local, was_begun, was_local}
 use Rattle.site_core.proofs.NamedLines.{each_named}
-use Rattle.site_core.proofs.RuleWalks.{by_pick, by_when}
+use Rattle.site_core.proofs.RuleWalks.{by_given, by_when}
 use Rattle.site_core.proofs.UpLaws.{act_answers, refusal_plain}
 
 -- what holds of each line that begins no local attempt, and of each that answers a begin, holds of each line of a site
@@ -43,42 +43,42 @@ module _ (P : SiteHappening → Type 0) (home : Home) (past : SitePast)
   unfolding of_give of_work Site.work_live Site.first_work Site.next_work of_take Site.take_live Site.next_take Site.repeated Site.unknown Site.did of_prepare Site.prepare_live Site.seals_global Site.votes_again Site.votes_no Site.votes_yes of_decide Site.unheld Site.settles
   by_give (To.Work t e n act) =
       by_when P _ _ _ (other _ _ _ _ _ (λ tx. refl))
-      (by_pick P _ _ _ (by_when P _ _ _ (other _ _ _ _ _ (λ tx. refl)) (other _ _ _ _ _ (λ tx. refl)))
+      (by_given P _ _ _ (by_when P _ _ _ (other _ _ _ _ _ (λ tx. refl)) (other _ _ _ _ _ (λ tx. refl)))
       (λ run. by_when P _ _ _ (other _ _ _ _ _ (λ tx. refl))
       (by_when P _ _ _ (other _ _ _ _ _ (λ tx. refl)) (by_when P _ _ _ (other _ _ _ _ _ (λ tx. refl)) (other _ _ _ _ _ (λ tx. refl))))))
   by_give (To.Take t e n) =
       by_when P _ _ _ (other _ _ _ _ _ (λ tx. refl))
-      (by_pick P _ _ _ (other _ _ _ _ _ (λ tx. refl))
+      (by_given P _ _ _ (other _ _ _ _ _ (λ tx. refl))
       (λ run. by_when P _ _ _ (other _ _ _ _ _ (λ tx. refl))
       (by_when P _ _ _ (other _ _ _ _ _ (λ tx. refl)) (by_when P _ _ _ (other _ _ _ _ _ (λ tx. refl)) (other _ _ _ _ _ (λ tx. refl))))))
   by_give (To.Prepare t e n) =
-      by_pick P _ _ _
-      (by_pick P _ _ _ (other _ _ _ _ _ (λ tx. refl))
+      by_given P _ _ _
+      (by_given P _ _ _ (other _ _ _ _ _ (λ tx. refl))
       (λ run. by_when P _ _ _
-      (by_pick P _ _ _ (other _ _ _ _ _ (λ tx. refl)) (λ ticket. by_pick P _ _ _ (other _ _ _ _ _ (λ tx. refl)) (λ why. other _ _ _ _ _ (λ tx. refl))))
+      (by_given P _ _ _ (other _ _ _ _ _ (λ tx. refl)) (λ ticket. by_given P _ _ _ (other _ _ _ _ _ (λ tx. refl)) (λ why. other _ _ _ _ _ (λ tx. refl))))
       (other _ _ _ _ _ (λ tx. refl))))
       (λ held. by_when P _ _ _ (other _ _ _ _ _ (λ tx. refl)) (other _ _ _ _ _ (λ tx. refl)))
   by_give (To.Decide t decision) =
-      by_pick P _ _ _ (by_pick P _ _ _ (other _ _ _ _ _ (λ tx. refl)) (λ run. other _ _ _ _ _ (λ tx. refl))) (λ held. other _ _ _ _ _ (λ tx. refl))
+      by_given P _ _ _ (by_given P _ _ _ (other _ _ _ _ _ (λ tx. refl)) (λ run. other _ _ _ _ _ (λ tx. refl))) (λ held. other _ _ _ _ _ (λ tx. refl))
 
   by_fate : (tx : Tx) → P (of_fate home past tx)
   unfolding of_fate
-  by_fate tx = by_pick P _ _ _ (by_pick P _ _ _ (by_count (attempts_of past tx == 0)) (λ r. other _ _ _ _ _ (λ t. refl))) (λ c. other _ _ _ _ _ (λ t. refl)) where
+  by_fate tx = by_given P _ _ _ (by_given P _ _ _ (by_count (attempts_of past tx == 0)) (λ r. other _ _ _ _ _ (λ t. refl))) (λ c. other _ _ _ _ _ (λ t. refl)) where
     by_count : (b : Bool) → P (quiet (Ev.Fate tx) (cond b Say.Unbegun Say.Ended))
     by_count true = other _ _ _ _ _ (λ t. refl)
     by_count false = other _ _ _ _ _ (λ t. refl)
 
   pub line_begins : (event : SiteEvent) → P (site_line home past event)
   unfolding site_line answered of_begin of_act of_commit Site.seals_local of_abort of_ask of_drop of_back of_check stopped
-  line_begins (Ev.Begin t) = by_up _ _ (by_pick P _ _ _ (by_pick P _ _ _ (begins _ _) (λ r. other _ _ _ _ _ (λ tx. refl))) (λ c. other _ _ _ _ _ (λ tx. refl)))
-  line_begins (Ev.Act t act) = by_up _ _ (by_pick P _ _ _ (other _ _ _ _ _ (λ tx. refl)) (λ run. other _ _ _ _ _ (act_answers t act (reply_to home past run act)).2))
+  line_begins (Ev.Begin t) = by_up _ _ (by_given P _ _ _ (by_given P _ _ _ (begins _ _) (λ r. other _ _ _ _ _ (λ tx. refl))) (λ c. other _ _ _ _ _ (λ tx. refl)))
+  line_begins (Ev.Act t act) = by_up _ _ (by_given P _ _ _ (other _ _ _ _ _ (λ tx. refl)) (λ run. other _ _ _ _ _ (act_answers t act (reply_to home past run act)).2))
   line_begins (Ev.Commit t) =
-      by_up _ _ (by_pick P _ _ _ (other _ _ _ _ _ (λ tx. refl)) (λ run. by_pick P _ _ _ (other _ _ _ _ _ (λ tx. refl)) (λ why. other _ _ _ _ _ (refusal_plain why).2)))
-  line_begins (Ev.Abort t) = by_up _ _ (by_pick P _ _ _ (other _ _ _ _ _ (λ tx. refl)) (λ run. other _ _ _ _ _ (λ tx. refl)))
+      by_up _ _ (by_given P _ _ _ (other _ _ _ _ _ (λ tx. refl)) (λ run. by_given P _ _ _ (other _ _ _ _ _ (λ tx. refl)) (λ why. other _ _ _ _ _ (refusal_plain why).2)))
+  line_begins (Ev.Abort t) = by_up _ _ (by_given P _ _ _ (other _ _ _ _ _ (λ tx. refl)) (λ run. other _ _ _ _ _ (λ tx. refl)))
   line_begins (Ev.Fate tx) = by_up _ _ (by_fate tx)
   line_begins (Ev.Give message) = by_up _ _ (by_give message)
-  line_begins (Ev.Ask t) = by_up _ _ (by_pick P _ _ _ (other _ _ _ _ _ (λ tx. refl)) (λ held. other _ _ _ _ _ (λ tx. refl)))
-  line_begins (Ev.Drop t) = by_up _ _ (by_when P _ _ _ (other _ _ _ _ _ (λ tx. refl)) (by_pick P _ _ _ (other _ _ _ _ _ (λ tx. refl)) (λ run. other _ _ _ _ _ (λ tx. refl))))
+  line_begins (Ev.Ask t) = by_up _ _ (by_given P _ _ _ (other _ _ _ _ _ (λ tx. refl)) (λ held. other _ _ _ _ _ (λ tx. refl)))
+  line_begins (Ev.Drop t) = by_up _ _ (by_when P _ _ _ (other _ _ _ _ _ (λ tx. refl)) (by_given P _ _ _ (other _ _ _ _ _ (λ tx. refl)) (λ run. other _ _ _ _ _ (λ tx. refl))))
   line_begins (Ev.Halt cut) = by_when P (is_down past) _ _ (other _ _ _ _ _ (λ tx. refl)) (other _ _ _ _ _ (λ tx. refl))
   line_begins (Ev.Trip calls cut) = other _ _ _ _ _ (λ tx. refl)
   line_begins Ev.Back = by_when P (is_down past) _ _ (by_trip (trip past) _ (other _ _ _ _ _ (λ tx. refl))) (other _ _ _ _ _ (λ tx. refl))

@@ -5,7 +5,7 @@ use Rattle.std.proofs.lemmas.Bool.{cond-true, cond-false}
 use Rattle.mdb_base.specs.declared.names.Tid.{Tid}
 use Rattle.mdb_base.specs.declared.names.Tx.{Tx}
 use Rattle.mdb_base.specs.Names.{same_tid}
-use Rattle.mdb_base.specs.Words.{map_some, pick, some_of}
+use Rattle.mdb_base.specs.Words.{given, map_some, some_of}
 use Rattle.mdb_base.proofs.NameLaws.{same_tid-equal, same_tid-refl, same_tid-sym, same_tx-refl}
 use Rattle.mdb_base.proofs.OptionLaws.{nothing_is}
 use Rattle.mdb_base.proofs.BoolLaws.{or_false}
@@ -129,15 +129,15 @@ unheld_line home tid decision lines = record {
 
 module _ (home : Home) (past : SitePast) (tid : Tid) (decision : Decision) where
   pub decide_settles : (held : Held) → doubt_of (Past.records home past) tid ≡ Some held → of_decide home past tid decision ≡ settle_line home tid decision
-  unfolding of_decide pick settles
+  unfolding of_decide given settles
   decide_settles held e = rw e refl
 
   pub decide_aborts : (run : Run) → doubt_of (Past.records home past) tid ≡ None → live home past tid ≡ Some run → of_decide home past tid decision ≡ unheld_line home tid decision (Aborts tid ∷ [])
-  unfolding of_decide pick unheld
+  unfolding of_decide given unheld
   decide_aborts run e f = rw (e, f) refl
 
   pub decide_idle : doubt_of (Past.records home past) tid ≡ None → live home past tid ≡ None → of_decide home past tid decision ≡ unheld_line home tid decision []
-  unfolding of_decide pick unheld
+  unfolding of_decide given unheld
   decide_idle e f = rw (e, f) refl
 
   -- a trip that is set before it changes nothing of it

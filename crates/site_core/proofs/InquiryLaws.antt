@@ -4,7 +4,7 @@ use Rattle.std.specs.Prelude.{option_to_list}
 use Rattle.std.proofs.lemmas.Bool.{cond-true, cond-false, eq-eqb, ne_eqb}
 use Rattle.mdb_base.specs.declared.names.Tid.{Tid}
 use Rattle.mdb_base.specs.declared.names.Tx.{Tx}
-use Rattle.mdb_base.specs.Words.{map_some, pick, some_of, when}
+use Rattle.mdb_base.specs.Words.{given, map_some, some_of, when}
 use Rattle.fed_rules.specs.declared.answers.Answer.TheVariants as Say
 use Rattle.fed_rules.specs.declared.events.SiteEvent.TheVariants as Ev
 use Rattle.fed_rules.specs.declared.events.SiteStep.{SiteStep}
@@ -30,11 +30,11 @@ abbrev pub ask_line : Tid → SiteHappening
 ask_line tid = record { event = Ev.Ask tid; answer = Say.Asks tid; sends = From.Inquiry tid ∷ []; calls = []; lines = [] }
 
 pub ask_asks : (home : Home) (past : SitePast) (tid : Tid) (held : Held) → doubt_of (records home past) tid ≡ Some held → of_ask home past tid ≡ ask_line tid
-unfolding of_ask pick
+unfolding of_ask given
 ask_asks home past tid held e = rw e refl
 
 pub ask_idle : (home : Home) (past : SitePast) (tid : Tid) → doubt_of (records home past) tid ≡ None → of_ask home past tid ≡ quiet (Ev.Ask tid) Say.Idle
-unfolding of_ask pick
+unfolding of_ask given
 ask_idle home past tid e = rw e refl
 
 -- an attempt is of a local transaction where one was begun
@@ -56,11 +56,11 @@ unfolding of_drop when
 drop_local home past tid e = rw e refl
 
 pub drop_idle : (home : Home) (past : SitePast) (tid : Tid) → is_local past tid ≡ false → live home past tid ≡ None → of_drop home past tid ≡ quiet (Ev.Drop tid) Say.Idle
-unfolding of_drop when pick
+unfolding of_drop when given
 drop_idle home past tid e f = rw (e, f) refl
 
 pub drop_drops : (home : Home) (past : SitePast) (tid : Tid) (run : Run) → is_local past tid ≡ false → live home past tid ≡ Some run → of_drop home past tid ≡ with_lines (Ev.Drop tid) (Say.Dropped tid) (Aborts tid ∷ [])
-unfolding of_drop when pick
+unfolding of_drop when given
 drop_drops home past tid run e f = rw (e, f) refl
 
 pub ask_up : (home : Home) (past : SitePast) (tid : Tid) → is_down past ≡ false → site_line home past (Ev.Ask tid) ≡ unless_tripped home past (of_ask home past tid)

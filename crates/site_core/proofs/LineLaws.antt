@@ -9,7 +9,7 @@ use Rattle.mdb_base.specs.declared.names.Tid.{Tid}
 use Rattle.mdb_base.specs.declared.names.Tx.{Tx}
 use Rattle.mdb_base.specs.declared.replies.Why.{Why}
 use Rattle.mdb_base.specs.Names.{same_tx}
-use Rattle.mdb_base.specs.Words.{first_where, map_some, pick, when}
+use Rattle.mdb_base.specs.Words.{first_where, given, map_some, when}
 use Rattle.mdb_base.proofs.NameLaws.{same_tid-equal, same_tx-equal, same_tx-refl}
 use Rattle.fed_rules.specs.declared.answers.Answer.{Answer}
 use Rattle.fed_rules.specs.declared.answers.Answer.TheVariants as Say
@@ -35,62 +35,62 @@ use Rattle.site_core.specs.Notes.{Notes, NotesPast}
 
 module _ (home : Home) (past : SitePast) where
   pub begin_committed : (tid committed : Tid) → local_of (records home past) tid.tx ≡ Some committed → of_begin home past tid ≡ quiet (Ev.Begin tid) (Say.Committed committed)
-  unfolding of_begin pick
+  unfolding of_begin given
   begin_committed tid committed a = rw a refl
 
   pub begin_running : (tid running : Tid) → local_of (records home past) tid.tx ≡ None → live_of_tx home past tid.tx ≡ Some running → of_begin home past tid ≡ quiet (Ev.Begin tid) (Say.Running running)
-  unfolding of_begin pick
+  unfolding of_begin given
   begin_running tid running a b = rw (a, b) refl
 
   pub begin_begun : (tid : Tid) → local_of (records home past) tid.tx ≡ None → live_of_tx home past tid.tx ≡ None
       → of_begin home past tid ≡ with_lines (Ev.Begin tid) (Say.Begun tid) (Begins tid (next_number home past) ∷ [])
-  unfolding of_begin pick
+  unfolding of_begin given
   begin_begun tid a b = rw (a, b) refl
 
   pub act_idle : (tid : Tid) (act : PlainAct) → live home past tid ≡ None → of_act home past tid act ≡ quiet (Ev.Act tid act) Say.Idle
-  unfolding of_act pick
+  unfolding of_act given
   act_idle tid act a = rw a refl
 
   pub act_acts : (tid : Tid) (act : PlainAct) (run : Run) → live home past tid ≡ Some run
       → of_act home past tid act ≡ with_lines (Ev.Act tid act) (act_answer tid (reply_to home past run act) act) (Acts tid act (reply_to home past run act) ∷ [])
-  unfolding of_act pick
+  unfolding of_act given
   act_acts tid act run a = rw a refl
 
   pub abort_idle : (tid : Tid) → live home past tid ≡ None → of_abort home past tid ≡ quiet (Ev.Abort tid) Say.Idle
-  unfolding of_abort pick
+  unfolding of_abort given
   abort_idle tid a = rw a refl
 
   pub abort_aborts : (tid : Tid) (run : Run) → live home past tid ≡ Some run → of_abort home past tid ≡ with_lines (Ev.Abort tid) (Say.Aborted tid) (Aborts tid ∷ [])
-  unfolding of_abort pick
+  unfolding of_abort given
   abort_aborts tid run a = rw a refl
 
   pub fate_committed : (tx : Tx) (committed : Tid) → local_of (records home past) tx ≡ Some committed → of_fate home past tx ≡ quiet (Ev.Fate tx) (Say.Committed committed)
-  unfolding of_fate pick
+  unfolding of_fate given
   fate_committed tx committed a = rw a refl
 
   pub fate_running : (tx : Tx) (running : Tid) → local_of (records home past) tx ≡ None → live_of_tx home past tx ≡ Some running → of_fate home past tx ≡ quiet (Ev.Fate tx) (Say.Running running)
-  unfolding of_fate pick
+  unfolding of_fate given
   fate_running tx running a b = rw (a, b) refl
 
   pub fate_unbegun : (tx : Tx) → local_of (records home past) tx ≡ None → live_of_tx home past tx ≡ None → (attempts_of past tx == 0) ≡ true → of_fate home past tx ≡ quiet (Ev.Fate tx) Say.Unbegun
-  unfolding of_fate pick
+  unfolding of_fate given
   fate_unbegun tx a b n = rw (a, b) (ap (λ answer. quiet (Ev.Fate tx) answer) (cond-true _ _ _ n))
 
   pub fate_ended : (tx : Tx) → local_of (records home past) tx ≡ None → live_of_tx home past tx ≡ None → (attempts_of past tx == 0) ≡ false → of_fate home past tx ≡ quiet (Ev.Fate tx) Say.Ended
-  unfolding of_fate pick
+  unfolding of_fate given
   fate_ended tx a b n = rw (a, b) (ap (λ answer. quiet (Ev.Fate tx) answer) (cond-false _ _ _ n))
 
   pub commit_idle : (tid : Tid) → live home past tid ≡ None → of_commit home past tid ≡ quiet (Ev.Commit tid) Say.Idle
-  unfolding of_commit pick
+  unfolding of_commit given
   commit_idle tid a = rw a refl
 
   pub commit_refused : (tid : Tid) (run : Run) (why : Why) → live home past tid ≡ Some run → stop_of home past run ≡ Some why
       → of_commit home past tid ≡ with_lines (Ev.Commit tid) (refusal_answer why) (Refuses tid why ∷ [])
-  unfolding of_commit pick
+  unfolding of_commit given
   commit_refused tid run why a b = rw (a, b) refl
 
   pub commit_seals : (tid : Tid) (run : Run) → live home past tid ≡ Some run → stop_of home past run ≡ None → of_commit home past tid ≡ seals_local home past tid run
-  unfolding of_commit pick
+  unfolding of_commit given
   commit_seals tid run a b = rw (a, b) refl
 
 -- a live run by the lines, where the book has one, and none where it has none
@@ -281,23 +281,23 @@ down_dead home past tid start lines = ap₂ (λ (s : Start) (l : List EngineLine
 abbrev IsQuiet : SiteHappening → Type 0
 IsQuiet x = (x.calls ≡ []) × (x.sends ≡ [])
 
-pick_quiet : {A : Type 0} (o : Option A) (none : SiteHappening) (some : A → SiteHappening) → IsQuiet none → ((x : A) → IsQuiet (some x)) → IsQuiet (pick o none some)
-unfolding pick
-pick_quiet None none some n s = n
-pick_quiet (Some x) none some n s = s x
+given_quiet : {A : Type 0} (o : Option A) (none : SiteHappening) (some : A → SiteHappening) → IsQuiet none → ((x : A) → IsQuiet (some x)) → IsQuiet (given o some none)
+unfolding given
+given_quiet None none some n s = n
+given_quiet (Some x) none some n s = s x
 
 pub begin_quiet : (home : Home) (past : SitePast) (tid : Tid) → IsQuiet (of_begin home past tid)
 unfolding of_begin
-begin_quiet home past tid = pick_quiet (local_of (records home past) tid.tx) _ _ (pick_quiet (live_of_tx home past tid.tx) _ _ (refl, refl) (λ r. (refl, refl))) (λ c. (refl, refl))
+begin_quiet home past tid = given_quiet (local_of (records home past) tid.tx) _ _ (given_quiet (live_of_tx home past tid.tx) _ _ (refl, refl) (λ r. (refl, refl))) (λ c. (refl, refl))
 
 pub act_quiet : (home : Home) (past : SitePast) (tid : Tid) (act : PlainAct) → IsQuiet (of_act home past tid act)
 unfolding of_act
-act_quiet home past tid act = pick_quiet (live home past tid) _ _ (refl, refl) (λ run. (refl, refl))
+act_quiet home past tid act = given_quiet (live home past tid) _ _ (refl, refl) (λ run. (refl, refl))
 
 pub abort_quiet : (home : Home) (past : SitePast) (tid : Tid) → IsQuiet (of_abort home past tid)
 unfolding of_abort
-abort_quiet home past tid = pick_quiet (live home past tid) _ _ (refl, refl) (λ run. (refl, refl))
+abort_quiet home past tid = given_quiet (live home past tid) _ _ (refl, refl) (λ run. (refl, refl))
 
 pub fate_quiet : (home : Home) (past : SitePast) (tx : Tx) → IsQuiet (of_fate home past tx)
 unfolding of_fate
-fate_quiet home past tx = pick_quiet (local_of (records home past) tx) _ _ (pick_quiet (live_of_tx home past tx) _ _ (refl, refl) (λ r. (refl, refl))) (λ c. (refl, refl))
+fate_quiet home past tx = given_quiet (local_of (records home past) tx) _ _ (given_quiet (live_of_tx home past tx) _ _ (refl, refl) (λ r. (refl, refl))) (λ c. (refl, refl))

@@ -9,7 +9,7 @@ use Rattle.mdb_base.specs.declared.names.Tx.{Tx}
 use Rattle.mdb_base.specs.declared.replies.Reply.{Reply}
 use Rattle.mdb_base.specs.declared.replies.Reply.TheVariants as Reply_is
 use Rattle.mdb_base.specs.Names.{same_tid}
-use Rattle.mdb_base.specs.Words.{map_some, or_else, pick, when}
+use Rattle.mdb_base.specs.Words.{given, map_some, or_else, when}
 use Rattle.mdb_base.proofs.NameLaws.{same_tid-equal, same_tid-refl}
 use Rattle.presumptions.specs.declared.Decision.{Decision}
 use Rattle.fed_rules.specs.declared.answers.Answer.TheVariants as Say
@@ -141,11 +141,11 @@ module _ (home : Home) (past : SitePast) (tid : Tid) (e n : ℕ) where
   take_over b = rw b refl
 
   take_none : is_over home past tid ≡ false → live home past tid ≡ None → of_take home past tid e n ≡ did home past (To.Take tid e n) tid n Reply_is.Unknown []
-  unfolding of_take when pick unknown
+  unfolding of_take when given unknown
   take_none b f = rw (b, f) refl
 
   take_of_live : (run : Run) → is_over home past tid ≡ false → live home past tid ≡ Some run → of_take home past tid e n ≡ take_live home past (To.Take tid e n) tid e n run
-  unfolding of_take when pick
+  unfolding of_take when given
   take_of_live run b f = rw (b, f) refl
 
   take_is : (run : Run)

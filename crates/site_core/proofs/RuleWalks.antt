@@ -4,7 +4,7 @@ use Rattle.std.specs.Prelude.{nat_le}
 use Rattle.mdb_base.specs.declared.acts.PlainAct.{PlainAct}
 use Rattle.mdb_base.specs.declared.names.Tid.{Tid}
 use Rattle.mdb_base.specs.declared.names.Tx.{Tx}
-use Rattle.mdb_base.specs.Words.{pick, some_of, when}
+use Rattle.mdb_base.specs.Words.{given, some_of, when}
 use Rattle.presumptions.specs.declared.Decision.{Decision}
 use Rattle.presumptions.specs.Table.{forces}
 use Rattle.fed_rules.specs.declared.answers.Answer.{Answer}
@@ -25,10 +25,10 @@ use Rattle.fed_rules.specs.SitePast.{SiteHappening, SitePast, disk, epoch, trip}
 use Rattle.fed_rules.specs.SiteRecords.{Home, site_frame}
 use Rattle.site_history.specs.Events.{prepares}
 
-pub by_pick : {A : Type 0} (P : SiteHappening → Type 0) (o : Option A) (none : SiteHappening) (some : A → SiteHappening) → P none → ((x : A) → P (some x)) → P (pick o none some)
-unfolding pick
-by_pick P None none some n s = n
-by_pick P (Some x) none some n s = s x
+pub by_given : {A : Type 0} (P : SiteHappening → Type 0) (o : Option A) (none : SiteHappening) (some : A → SiteHappening) → P none → ((x : A) → P (some x)) → P (given o some none)
+unfolding given
+by_given P None none some n s = n
+by_given P (Some x) none some n s = s x
 
 pub by_when : (P : SiteHappening → Type 0) (b : Bool) (x y : SiteHappening) → P x → P y → P (when b x y)
 unfolding when
@@ -43,31 +43,31 @@ OfCalls event calls P =
 module _ (P : SiteHappening → Type 0) (home : Home) (past : SitePast) where
   pub walk_begin : (t : Tid) → OfCalls (Ev.Begin t) [] P → P (of_begin home past t)
   unfolding of_begin
-  walk_begin t leaf = by_pick P _ _ _ (by_pick P _ _ _ (leaf _ _ _) (λ r. leaf _ _ _)) (λ c. leaf _ _ _)
+  walk_begin t leaf = by_given P _ _ _ (by_given P _ _ _ (leaf _ _ _) (λ r. leaf _ _ _)) (λ c. leaf _ _ _)
 
   pub walk_act : (t : Tid) (act : PlainAct) → OfCalls (Ev.Act t act) [] P → P (of_act home past t act)
   unfolding of_act
-  walk_act t act leaf = by_pick P _ _ _ (leaf _ _ _) (λ run. leaf _ _ _)
+  walk_act t act leaf = by_given P _ _ _ (leaf _ _ _) (λ run. leaf _ _ _)
 
   pub walk_commit : (t : Tid) → OfCalls (Ev.Commit t) [] P → ((n : ℕ) (writes : _) → OfCalls (Ev.Commit t) (Append (Rec.Local t n writes) ∷ Sync ∷ []) P) → P (of_commit home past t)
   unfolding of_commit Site.seals_local
-  walk_commit t leaf seals = by_pick P _ _ _ (leaf _ _ _) (λ run. by_pick P _ _ _ (seals _ _ _ _ _) (λ why. leaf _ _ _))
+  walk_commit t leaf seals = by_given P _ _ _ (leaf _ _ _) (λ run. by_given P _ _ _ (seals _ _ _ _ _) (λ why. leaf _ _ _))
 
   pub walk_abort : (t : Tid) → OfCalls (Ev.Abort t) [] P → P (of_abort home past t)
   unfolding of_abort
-  walk_abort t leaf = by_pick P _ _ _ (leaf _ _ _) (λ run. leaf _ _ _)
+  walk_abort t leaf = by_given P _ _ _ (leaf _ _ _) (λ run. leaf _ _ _)
 
   pub walk_fate : (tx : Tx) → OfCalls (Ev.Fate tx) [] P → P (of_fate home past tx)
   unfolding of_fate
-  walk_fate tx leaf = by_pick P _ _ _ (by_pick P _ _ _ (leaf _ _ _) (λ r. leaf _ _ _)) (λ c. leaf _ _ _)
+  walk_fate tx leaf = by_given P _ _ _ (by_given P _ _ _ (leaf _ _ _) (λ r. leaf _ _ _)) (λ c. leaf _ _ _)
 
   pub walk_ask : (t : Tid) → OfCalls (Ev.Ask t) [] P → P (of_ask home past t)
   unfolding of_ask
-  walk_ask t leaf = by_pick P _ _ _ (leaf _ _ _) (λ held. leaf _ _ _)
+  walk_ask t leaf = by_given P _ _ _ (leaf _ _ _) (λ held. leaf _ _ _)
 
   pub walk_drop : (t : Tid) → OfCalls (Ev.Drop t) [] P → P (of_drop home past t)
   unfolding of_drop
-  walk_drop t leaf = by_when P _ _ _ (leaf _ _ _) (by_pick P _ _ _ (leaf _ _ _) (λ run. leaf _ _ _))
+  walk_drop t leaf = by_when P _ _ _ (leaf _ _ _) (by_given P _ _ _ (leaf _ _ _) (λ run. leaf _ _ _))
 
   pub walk_check : OfCalls Ev.Check [] P → OfCalls Ev.Check (Append (checkpoint home past) ∷ Sync ∷ TrimFront ∷ []) P → P (of_check home past)
   unfolding of_check
@@ -81,14 +81,14 @@ module _ (P : SiteHappening → Type 0) (home : Home) (past : SitePast) where
   unfolding of_work Site.work_live Site.first_work Site.next_work Site.repeated Site.unknown Site.did
   walk_work t e n act leaf =
       by_when P _ _ _ (leaf _ _ _)
-      (by_pick P _ _ _ (by_when P _ _ _ (leaf _ _ _) (leaf _ _ _))
+      (by_given P _ _ _ (by_when P _ _ _ (leaf _ _ _) (leaf _ _ _))
       (λ run. by_when P _ _ _ (leaf _ _ _) (by_when P _ _ _ (leaf _ _ _) (by_when P _ _ _ (leaf _ _ _) (leaf _ _ _)))))
 
   pub walk_take : (t : Tid) (e n : ℕ) → OfCalls (Ev.Give (To.Take t e n)) [] P → P (of_take home past t e n)
   unfolding of_take Site.take_live Site.next_take Site.repeated Site.unknown Site.did
   walk_take t e n leaf =
       by_when P _ _ _ (leaf _ _ _)
-      (by_pick P _ _ _ (leaf _ _ _)
+      (by_given P _ _ _ (leaf _ _ _)
       (λ run. by_when P _ _ _ (leaf _ _ _) (by_when P _ _ _ (leaf _ _ _) (by_when P _ _ _ (leaf _ _ _) (leaf _ _ _)))))
 
   pub walk_prepare : (t : Tid) (e n : ℕ) → OfCalls (Ev.Give (To.Prepare t e n)) [] P
@@ -96,16 +96,16 @@ module _ (P : SiteHappening → Type 0) (home : Home) (past : SitePast) where
       → P (of_prepare home past t e n)
   unfolding of_prepare Site.prepare_live Site.seals_global Site.votes_again Site.votes_no Site.votes_yes
   walk_prepare t e n leaf seals =
-      by_pick P _ _ _
-      (by_pick P _ _ _ (leaf _ _ _)
-      (λ run. by_when P _ _ _ (by_pick P _ _ _ (leaf _ _ _) (λ ticket. by_pick P _ _ _ (seals _ _ _ _ _ _ _) (λ why. leaf _ _ _))) (leaf _ _ _)))
+      by_given P _ _ _
+      (by_given P _ _ _ (leaf _ _ _)
+      (λ run. by_when P _ _ _ (by_given P _ _ _ (leaf _ _ _) (λ ticket. by_given P _ _ _ (seals _ _ _ _ _ _ _) (λ why. leaf _ _ _))) (leaf _ _ _)))
       (λ held. by_when P _ _ _ (leaf _ _ _) (leaf _ _ _))
 
   pub walk_decide : (t : Tid) (decision : Decision) → OfCalls (Ev.Give (To.Decide t decision)) [] P
       → OfCalls (Ev.Give (To.Decide t decision)) (Append (Rec.Ended t decision) ∷ cond (forces home.protocol decision) (Sync ∷ []) []) P
       → P (of_decide home past t decision)
   unfolding of_decide Site.unheld Site.settles
-  walk_decide t decision leaf settles = by_pick P _ _ _ (by_pick P _ _ _ (leaf _ _ _) (λ run. leaf _ _ _)) (λ held. settles _ _ _)
+  walk_decide t decision leaf settles = by_given P _ _ _ (by_given P _ _ _ (leaf _ _ _) (λ run. leaf _ _ _)) (λ held. settles _ _ _)
 
 -- a line of a site is of its event
 answered_event : (home : Home) (past : SitePast) (event : SiteEvent) → (answered home past event).event ≡ event

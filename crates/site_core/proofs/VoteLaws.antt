@@ -7,7 +7,7 @@ use Rattle.mdb_base.specs.declared.names.Tx.{Tx}
 use Rattle.mdb_base.specs.declared.rows.Put.{Put}
 use Rattle.mdb_base.specs.declared.replies.Why.{Why}
 use Rattle.mdb_base.specs.Names.{same_tid}
-use Rattle.mdb_base.specs.Words.{inserted, map_some, pick, when}
+use Rattle.mdb_base.specs.Words.{given, inserted, map_some, when}
 use Rattle.mdb_base.proofs.NameLaws.{same_tid-refl}
 use Rattle.fed_rules.specs.declared.answers.Answer.TheVariants as Say
 use Rattle.fed_rules.specs.declared.events.SiteEvent.TheVariants as Ev
@@ -80,19 +80,19 @@ pub record Finishes (home : Home) (past : SitePast) (tid : Tid) (e n ticket : �
 
 module _ (home : Home) (past : SitePast) (tid : Tid) (e n : ℕ) where
   prepare_again : (held : Held) → doubt_of (Past.records home past) tid ≡ Some held → (held.epoch == e) ≡ true → of_prepare home past tid e n ≡ votes_again tid e n held
-  unfolding of_prepare pick when
+  unfolding of_prepare given when
   prepare_again held d b = rw (d, b) refl
 
   prepare_late : (held : Held) → doubt_of (Past.records home past) tid ≡ Some held → (held.epoch == e) ≡ false → of_prepare home past tid e n ≡ votes_no tid e n None []
-  unfolding of_prepare pick when
+  unfolding of_prepare given when
   prepare_late held d b = rw (d, b) refl
 
   prepare_none : doubt_of (Past.records home past) tid ≡ None → live home past tid ≡ None → of_prepare home past tid e n ≡ votes_no tid e n None []
-  unfolding of_prepare pick
+  unfolding of_prepare given
   prepare_none d l = rw (d, l) refl
 
   prepare_of_live : (run : Run) → doubt_of (Past.records home past) tid ≡ None → live home past tid ≡ Some run → of_prepare home past tid e n ≡ prepare_live home past tid e n run
-  unfolding of_prepare pick
+  unfolding of_prepare given
   prepare_of_live run d l = rw (d, l) refl
 
   live_other : (run : Run) → ((e == epoch home past) && (n == Site.done run)) ≡ false → prepare_live home past tid e n run ≡ votes_no tid e n None []
@@ -100,19 +100,19 @@ module _ (home : Home) (past : SitePast) (tid : Tid) (e n : ℕ) where
   live_other run b = rw b refl
 
   live_ticketless : (run : Run) → ((e == epoch home past) && (n == Site.done run)) ≡ true → run.ticket ≡ None → prepare_live home past tid e n run ≡ votes_no tid e n None []
-  unfolding prepare_live when pick
+  unfolding prepare_live when given
   live_ticketless run b t = rw (b, t) refl
 
   live_finished : (run : Run) (ticket : ℕ) → ((e == epoch home past) && (n == Site.done run)) ≡ true → run.ticket ≡ Some ticket → prepare_live home past tid e n run ≡ seals_global home past tid e n run ticket
-  unfolding prepare_live when pick
+  unfolding prepare_live when given
   live_finished run ticket b t = rw (b, t) refl
 
   seals_refused : (run : Run) (ticket : ℕ) (why : Why) → stop_of home past run ≡ Some why → seals_global home past tid e n run ticket ≡ votes_no tid e n (Some why) (Refuses tid why ∷ [])
-  unfolding seals_global pick
+  unfolding seals_global given
   seals_refused run ticket why s = rw s refl
 
   seals_passes : (run : Run) (ticket : ℕ) → stop_of home past run ≡ None → seals_global home past tid e n run ticket ≡ votes_yes home past tid e n run ticket
-  unfolding seals_global pick
+  unfolding seals_global given
   seals_passes run ticket s = rw s refl
 
   -- of an attempt that hasn't finished so the vote is no

@@ -9,7 +9,7 @@ use Rattle.mdb_base.specs.declared.names.Tx.{Tx}
 use Rattle.mdb_base.specs.declared.replies.Reply.{Reply}
 use Rattle.mdb_base.specs.declared.replies.Reply.TheVariants as Reply_is
 use Rattle.mdb_base.specs.Names.{same_tid}
-use Rattle.mdb_base.specs.Words.{map_some, pick, when}
+use Rattle.mdb_base.specs.Words.{given, map_some, when}
 use Rattle.mdb_base.proofs.NameLaws.{same_tid-equal, same_tid-refl, same_tx-refl}
 use Rattle.mdb_base.proofs.BoolLaws.{or_false}
 use Rattle.fed_rules.specs.declared.answers.Answer.TheVariants as Say
@@ -59,18 +59,18 @@ module _ (home : Home) (past : SitePast) (tid : Tid) (e n : ℕ) (act : PlainAct
 
   -- of an attempt that isn't live only the first act is one
   pub work_none : live home past tid ≡ None → ((e == 0) && (n == 0)) ≡ false → of_work home past tid e n act ≡ did home past (To.Work tid e n act) tid n Reply_is.Unknown []
-  unfolding of_work when pick unknown
+  unfolding of_work when given unknown
   work_none none later = by_over (is_over home past tid) refl where
     by_over : (b : Bool) → is_over home past tid ≡ b → of_work home past tid e n act ≡ did home past (To.Work tid e n act) tid n Reply_is.Unknown []
     by_over true f = work_over f
     by_over false f = rw (f, none, later) refl
 
   pub work_first : is_over home past tid ≡ false → live home past tid ≡ None → ((e == 0) && (n == 0)) ≡ true → of_work home past tid e n act ≡ first_work home past (To.Work tid e n act) tid n act
-  unfolding of_work when pick
+  unfolding of_work when given
   work_first b none first = rw (b, none, first) refl
 
   work_of_live : (run : Run) → is_over home past tid ≡ false → live home past tid ≡ Some run → of_work home past tid e n act ≡ work_live home past (To.Work tid e n act) tid e n act run
-  unfolding of_work when pick
+  unfolding of_work when given
   work_of_live run b f = rw (b, f) refl
 
   work_is : (run : Run)

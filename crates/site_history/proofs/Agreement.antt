@@ -7,7 +7,7 @@ use Rattle.mdb_base.specs.declared.acts.PlainAct.TheVariants.{Read, Write}
 use Rattle.mdb_base.specs.declared.replies.Reply.{Reply}
 use Rattle.mdb_base.specs.declared.replies.Reply.TheVariants as Reply_is
 use Rattle.mdb_base.specs.Names.{same_tid}
-use Rattle.mdb_base.specs.Words.{Each, when, pick}
+use Rattle.mdb_base.specs.Words.{Each, when, given}
 use Rattle.mdb_base.proofs.NameLaws.{same_tid-equal}
 use Rattle.fed_rules.specs.declared.answers.Answer.{Answer}
 use Rattle.fed_rules.specs.declared.events.SiteEvent.{SiteEvent}
@@ -201,8 +201,8 @@ unfolding when
 good_when home past true x y p q = p refl
 good_when home past false x y p q = q refl
 
-pub good_pick : {A : Type 0} (home : Home) (past : SitePast) (o : Option A) (none : SiteHappening) (some : A → SiteHappening)
-    → (o ≡ None → IsGoodLine home past none) → ((a : A) → o ≡ Some a → IsGoodLine home past (some a)) → IsGoodLine home past (pick o none some)
-unfolding pick
-good_pick home past None none some p q = p refl
-good_pick home past (Some a) none some p q = q a refl
+pub good_given : {A : Type 0} (home : Home) (past : SitePast) (o : Option A) (none : SiteHappening) (some : A → SiteHappening)
+    → (o ≡ None → IsGoodLine home past none) → ((a : A) → o ≡ Some a → IsGoodLine home past (some a)) → IsGoodLine home past (given o some none)
+unfolding given
+good_given home past None none some p q = p refl
+good_given home past (Some a) none some p q = q a refl

@@ -12,7 +12,7 @@ use Rattle.mdb_base.specs.declared.replies.Reply.TheVariants as Reply_is
 use Rattle.mdb_base.specs.declared.replies.Why.TheVariants as Because
 use Rattle.mdb_base.specs.Names.{same_site}
 use Rattle.mdb_base.specs.Programs.{plain_act}
-use Rattle.mdb_base.specs.Words.{Each, found, how_many, pick, some_of, those, when, with_some}
+use Rattle.mdb_base.specs.Words.{Each, found, given, how_many, some_of, those, when, with_some}
 use Rattle.mdb_base.proofs.ListLaws.{each_filtered}
 use Rattle.mdb_base.proofs.NameLaws.{same_tid-equal}
 use Rattle.order_laws.specs.Search.{cycle_through}
@@ -142,11 +142,11 @@ unfolding when
 step_when past event true x y p q = p refl
 step_when past event false x y p q = q refl
 
-step_pick : {A : Type 0} (past : CoordPast) (event : CoordEvent) (o : Option A) (none : CoordHappening) (some : A → CoordHappening)
-    → IsCoordStep past event none → ((a : A) → IsCoordStep past event (some a)) → IsCoordStep past event (pick o none some)
-unfolding pick
-step_pick past event None none some p q = p
-step_pick past event (Some a) none some p q = q a
+step_given : {A : Type 0} (past : CoordPast) (event : CoordEvent) (o : Option A) (none : CoordHappening) (some : A → CoordHappening)
+    → IsCoordStep past event none → ((a : A) → IsCoordStep past event (some a)) → IsCoordStep past event (given o some none)
+unfolding given
+step_given past event None none some p q = p
+step_given past event (Some a) none some p q = q a
 
 step_sent : (past : CoordPast) (event : CoordEvent) (tid : Tid) (answer : Answer) (dues : List Due)
     → IsSending answer → MayCount past event
@@ -223,8 +223,8 @@ step_go : (protocols : List Participant) (past : CoordPast) (tid : Tid) (steps :
     → IsCoordStep past (Ev.Go tid steps) (of_go protocols past tid steps)
 unfolding of_go
 step_go protocols past tid steps =
-    step_pick past (Ev.Go tid steps) (committed_of (records past) tid.tx) _ _
-    (step_pick past (Ev.Go tid steps) (undecided_of past tid.tx) _ _
+    step_given past (Ev.Go tid steps) (committed_of (records past) tid.tx) _ _
+    (step_given past (Ev.Go tid steps) (undecided_of past tid.tx) _ _
     (record {
       named = refl;
       begun = λ t b. same_tid-equal tid t b;
@@ -280,7 +280,7 @@ step_last : (protocols : List Participant) (past : CoordPast) (event : CoordEven
     → IsCoordStep past event (last_vote protocols past event tid tickets)
 unfolding last_vote
 step_last protocols past event tid tickets may =
-    step_pick past event (cycle_through edge_between (record { tid = tid; tickets = tickets }) (commits (records past))) _ _
+    step_given past event (cycle_through edge_between (record { tid = tid; tickets = tickets }) (commits (records past))) _ _
     (step_commits protocols past event tid tickets may) (λ edges. step_aborts protocols past event tid _ may)
 
 step_yes : (protocols : List Participant) (past : CoordPast) (event : CoordEvent) (tid : Tid) → MayCount past event
@@ -365,8 +365,8 @@ step_answered protocols policy past (Ev.Late tid) =
     step_when past (Ev.Late tid) (is_open past tid) _ _ (λ e. step_aborts protocols past _ tid _ tt)
     (λ e. record { named = refl; begun = λ t b. cc; counts = λ c. tt; asked = tt })
 step_answered protocols policy past (Ev.Fate tx) =
-    step_pick past (Ev.Fate tx) (committed_of (records past) tx) _ _
-    (step_pick past (Ev.Fate tx) (undecided_of past tx) _ _
+    step_given past (Ev.Fate tx) (committed_of (records past) tx) _ _
+    (step_given past (Ev.Fate tx) (undecided_of past tx) _ _
     (record { named = refl; begun = λ t b. (let clash = sym (fate_begins t _) ∙ b in cc); counts = λ c. tt; asked = tt })
     (λ running. record { named = refl; begun = λ t b. cc; counts = λ c. tt; asked = tt }))
     (λ committed. record { named = refl; begun = λ t b. cc; counts = λ c. tt; asked = tt })

@@ -10,7 +10,7 @@ use Rattle.mdb_base.specs.declared.replies.Reply.{Reply}
 use Rattle.mdb_base.specs.declared.replies.Reply.TheVariants as Reply_is
 use Rattle.mdb_base.specs.declared.replies.Why.TheVariants as Because
 use Rattle.mdb_base.specs.Names.{same_site, same_tid}
-use Rattle.mdb_base.specs.Words.{Each, found, pick, some_of, when}
+use Rattle.mdb_base.specs.Words.{Each, found, given, some_of, when}
 use Rattle.mdb_base.proofs.ListLaws.{each_filtered}
 use Rattle.mdb_base.proofs.NameLaws.{same_tid-equal}
 use Rattle.order_laws.specs.Search.{cycle_through}
@@ -109,11 +109,11 @@ unfolding when
 sends_when local true x y p q = p
 sends_when local false x y p q = q
 
-sends_pick : {A : Type 0} (local : Tx → Bool) (o : Option A) (none : CoordHappening) (some : A → CoordHappening) → SendsSorted local none
-    → ((a : A) → SendsSorted local (some a)) → SendsSorted local (pick o none some)
-unfolding pick
-sends_pick local None none some p q = p
-sends_pick local (Some a) none some p q = q a
+sends_given : {A : Type 0} (local : Tx → Bool) (o : Option A) (none : CoordHappening) (some : A → CoordHappening) → SendsSorted local none
+    → ((a : A) → SendsSorted local (some a)) → SendsSorted local (given o some none)
+unfolding given
+sends_given local None none some p q = p
+sends_given local (Some a) none some p q = q a
 
 sends_of_dues : (local : Tx → Bool) (protocols : List Participant) (past : CoordPast) (event : CoordEvent) (tid : Tid) (answer : Answer)
     (dues : List Due) → BeginsGlobal local event → Each (λ due. local tid.tx ≡ false) dues
@@ -157,8 +157,8 @@ sends_go : (local : Tx → Bool) (protocols : List Participant) (past : CoordPas
     → Each (λ x. BeginsGlobal local x.event) past → local tid.tx ≡ false → SendsSorted local (of_go protocols past tid steps)
 unfolding of_go
 sends_go local protocols past tid steps h mine =
-    sends_pick local (committed_of (records past) tid.tx) _ _
-    (sends_pick local (undecided_of past tid.tx) _ _
+    sends_given local (committed_of (records past) tid.tx) _ _
+    (sends_given local (undecided_of past tid.tx) _ _
     (record {
       sends = sorted_dues local tid (all_outstanding protocols (quiet (Ev.Go tid steps) (Say.Begun tid) ∷ past) tid)
           (all_global local protocols (quiet (Ev.Go tid steps) (Say.Begun tid) ∷ past) tid (mine, h)
@@ -208,7 +208,7 @@ sends_last : (local : Tx → Bool) (protocols : List Participant) (past : CoordP
     → BeginsGlobal local event → SendsSorted local (last_vote protocols past event tid tickets)
 unfolding last_vote
 sends_last local protocols past event tid tickets mine =
-    sends_pick local (cycle_through edge_between (record { tid = tid; tickets = tickets }) (commits (records past))) _ _
+    sends_given local (cycle_through edge_between (record { tid = tid; tickets = tickets }) (commits (records past))) _ _
     (sends_commits local protocols past event tid tickets mine) (λ edges. sends_aborts local protocols past event tid _ mine)
 
 sends_yes : (local : Tx → Bool) (protocols : List Participant) (past : CoordPast) (event : CoordEvent) (tid : Tid)
@@ -293,8 +293,8 @@ sends_late local protocols past tid =
 sends_fate : (local : Tx → Bool) (past : CoordPast) (tx : Tx) → SendsSorted local (of_fate past tx)
 unfolding of_fate
 sends_fate local past tx =
-    sends_pick local (committed_of (records past) tx) _ _
-    (sends_pick local (undecided_of past tx) _ _ (record { sends = tt; begins = tt }) (λ running. record { sends = tt; begins = tt }))
+    sends_given local (committed_of (records past) tx) _ _
+    (sends_given local (undecided_of past tx) _ _ (record { sends = tt; begins = tt }) (λ running. record { sends = tt; begins = tt }))
     (λ committed. record { sends = tt; begins = tt })
 
 sends_back : (local : Tx → Bool) (protocols : List Participant) (past : CoordPast) → SendsSorted local (of_back protocols past)

@@ -25,7 +25,7 @@ use Rattle.fed_rules.specs.SitePast.{SitePast, attempts_of, epoch_start, engine_
 use Rattle.fed_rules.specs.SiteRecords.{Home, doubt_of, local_of}
 use Rattle.engine_laws.proofs.Runs.{attempts_have, tid_is}
 use Rattle.site_history.specs.Lines.{Agrees}
-use Rattle.site_history.proofs.Agreement.{IsKept, IsGoodLine, IsLiveHere, acted_open, good_pick, good_when, live_here, one, one_live, still}
+use Rattle.site_history.proofs.Agreement.{IsKept, IsGoodLine, IsLiveHere, acted_open, good_given, good_when, live_here, one, one_live, still}
 
 -- where no item is the first that passes, each fails
 none_first : {A : Type 0} (test : A → Bool) (xs : List A) → first_where test xs ≡ None → Each (λ x. test x ≡ false) xs
@@ -65,8 +65,8 @@ pub good_begin : (home : Home) (past : SitePast) (tid : Tid) → IsKept home pas
     → IsGoodLine home past (of_begin home past tid)
 unfolding of_begin
 good_begin home past tid k fresh =
-    good_pick home past (local_of (records home past) tid.tx) _ _
-    (λ e. good_pick home past (live_of_tx home past tid.tx) _ _
+    good_given home past (local_of (records home past) tid.tx) _ _
+    (λ e. good_given home past (live_of_tx home past tid.tx) _ _
     (λ none. one home past (Ev.Begin tid) (Say.Begun tid) [] (Begins tid (next_number home past)) k refl
     (begin_free home past tid k none fresh, refl)
     (subst (λ o. Agrees o (Some (record { tid = tid; age = next_number home past; sealed = None; ticket = None; acts = [] }))) (sym fresh) refl))
@@ -89,7 +89,7 @@ act_plain tid Reply_is.Unknown act = refl
 pub good_act : (home : Home) (past : SitePast) (tid : Tid) (act : PlainAct) → IsKept home past → IsGoodLine home past (of_act home past tid act)
 unfolding of_act
 good_act home past tid act k =
-    good_pick home past (live home past tid) _ _ (λ e. still home past (Ev.Act tid act) Say.Idle [] k refl)
+    good_given home past (live home past tid) _ _ (λ e. still home past (Ev.Act tid act) Say.Idle [] k refl)
     (λ run e.
     let here = live_here home past tid run k e in
     let reply = reply_to home past run act in
@@ -149,17 +149,17 @@ good_local home past tid run k here free = record {
 pub good_commit : (home : Home) (past : SitePast) (tid : Tid) → IsKept home past → IsGoodLine home past (of_commit home past tid)
 unfolding of_commit
 good_commit home past tid k =
-    good_pick home past (live home past tid) _ _ (λ e. still home past (Ev.Commit tid) Say.Idle [] k refl)
+    good_given home past (live home past tid) _ _ (λ e. still home past (Ev.Commit tid) Say.Idle [] k refl)
     (λ run e.
     let here = live_here home past tid run k e in
-    good_pick home past (stop_of home past run) _ _ (λ free. good_local home past tid run k here free)
+    good_given home past (stop_of home past run) _ _ (λ free. good_local home past tid run k here free)
     (λ why stop. one_live home past (Ev.Commit tid) (refusal_answer why) [] (Refuses tid why) run k (refusal_plain why) here
     (run, (here.live, ap (λ kind. seal_stop kind (epoch_start home past) (engine_lines past) run) k.kind ∙ stop)) tt))
 
 pub good_abort : (home : Home) (past : SitePast) (tid : Tid) → IsKept home past → IsGoodLine home past (of_abort home past tid)
 unfolding of_abort
 good_abort home past tid k =
-    good_pick home past (live home past tid) _ _ (λ e. still home past (Ev.Abort tid) Say.Idle [] k refl)
+    good_given home past (live home past tid) _ _ (λ e. still home past (Ev.Abort tid) Say.Idle [] k refl)
     (λ run e.
     let here = live_here home past tid run k e in
     one_live home past (Ev.Abort tid) (Say.Aborted tid) [] (Aborts tid) run k refl here (run, here.live.0) tt)
@@ -171,8 +171,8 @@ fate_plain false = refl
 pub good_fate : (home : Home) (past : SitePast) (tx : Tx) → IsKept home past → IsGoodLine home past (of_fate home past tx)
 unfolding of_fate
 good_fate home past tx k =
-    good_pick home past (local_of (records home past) tx) _ _
-    (λ e. good_pick home past (live_of_tx home past tx) _ _
+    good_given home past (local_of (records home past) tx) _ _
+    (λ e. good_given home past (live_of_tx home past tx) _ _
     (λ f. still home past (Ev.Fate tx) (cond (attempts_of past tx == 0) Say.Unbegun Say.Ended) [] k (fate_plain (attempts_of past tx == 0)))
     (λ running f. still home past (Ev.Fate tx) (Say.Running running) [] k refl))
     (λ committed e. still home past (Ev.Fate tx) (Say.Committed committed) [] k refl)
@@ -180,14 +180,14 @@ good_fate home past tx k =
 pub good_ask : (home : Home) (past : SitePast) (tid : Tid) → IsKept home past → IsGoodLine home past (of_ask home past tid)
 unfolding of_ask
 good_ask home past tid k =
-    good_pick home past (doubt_of (records home past) tid) _ _ (λ e. still home past (Ev.Ask tid) Say.Idle [] k refl)
+    good_given home past (doubt_of (records home past) tid) _ _ (λ e. still home past (Ev.Ask tid) Say.Idle [] k refl)
     (λ held e. still home past (Ev.Ask tid) (Say.Asks tid) (From.Inquiry tid ∷ []) k refl)
 
 pub good_drop : (home : Home) (past : SitePast) (tid : Tid) → IsKept home past → IsGoodLine home past (of_drop home past tid)
 unfolding of_drop
 good_drop home past tid k =
     good_when home past (is_local past tid) _ _ (λ e. still home past (Ev.Drop tid) Say.Idle [] k refl)
-    (λ e. good_pick home past (live home past tid) _ _ (λ f. still home past (Ev.Drop tid) Say.Idle [] k refl)
+    (λ e. good_given home past (live home past tid) _ _ (λ f. still home past (Ev.Drop tid) Say.Idle [] k refl)
     (λ run f.
     let here = live_here home past tid run k f in
     one_live home past (Ev.Drop tid) (Say.Dropped tid) [] (Aborts tid) run k refl here (run, here.live.0) tt))

@@ -26,7 +26,7 @@ use Rattle.fed_rules.specs.SiteRecords.{Home, Held, doubt_of, site_frame}
 use Rattle.engine_laws.proofs.Rows.{rising_puts}
 use Rattle.site_history.specs.Lines.{Agrees}
 use Rattle.site_history.proofs.Starts.{HasRisingWrites, EachAppend}
-use Rattle.site_history.proofs.Agreement.{IsKept, IsGoodLine, IsLiveHere, acted_open, agrees_line, free_here, good_pick, good_when, live_here, one_live, still, took_open}
+use Rattle.site_history.proofs.Agreement.{IsKept, IsGoodLine, IsLiveHere, acted_open, agrees_line, free_here, good_given, good_when, live_here, one_live, still, took_open}
 
 good_unknown : (home : Home) (past : SitePast) (message : ToSite) (tid : Tid) (n : ℕ) → IsKept home past
     → IsGoodLine home past (unknown home past message tid n)
@@ -107,7 +107,7 @@ unfolding of_work
 good_work home past tid e n act k =
     let message = To.Work tid e n act in
     good_when home past (is_over home past tid) _ _ (λ q. good_unknown home past message tid n k)
-    (λ fresh. good_pick home past (live home past tid) _ _
+    (λ fresh. good_given home past (live home past tid) _ _
     (λ none. good_when home past ((e == 0) && (n == 0)) _ _
     (λ q. good_first_work home past message tid n act k (free_here home past tid k none (not_over home past tid fresh))
     (not_over home past tid fresh))
@@ -146,7 +146,7 @@ unfolding of_take
 good_take home past tid e n k =
     let message = To.Take tid e n in
     good_when home past (is_over home past tid) _ _ (λ q. good_unknown home past message tid n k)
-    (λ fresh. good_pick home past (live home past tid) _ _ (λ none. good_unknown home past message tid n k)
+    (λ fresh. good_given home past (live home past tid) _ _ (λ none. good_unknown home past message tid n k)
     (λ run at. good_take_live home past message tid e n run k (live_here home past tid run k at)))
 
 good_no : (home : Home) (past : SitePast) (tid : Tid) (e n : ℕ) → IsKept home past → IsGoodLine home past (votes_no tid e n None [])
@@ -201,7 +201,7 @@ good_seals : (home : Home) (past : SitePast) (tid : Tid) (e n : ℕ) (run : Run)
     → run.ticket ≡ Some ticket → IsGoodLine home past (seals_global home past tid e n run ticket)
 unfolding seals_global votes_no
 good_seals home past tid e n run ticket k here took =
-    good_pick home past (stop_of home past run) _ _ (λ free. good_yes home past tid e n run ticket k here took free)
+    good_given home past (stop_of home past run) _ _ (λ free. good_yes home past tid e n run ticket k here took free)
     (λ why stop. one_live home past (Ev.Give (To.Prepare tid e n)) (Say.VotesNo tid (Some why)) (From.Vote tid None ∷ []) (Refuses tid why) run k refl
     here (run, (here.live, ap (λ kind. seal_stop kind (epoch_start home past) (engine_lines past) run) k.kind ∙ stop)) tt)
 
@@ -210,15 +210,15 @@ good_prepare_live : (home : Home) (past : SitePast) (tid : Tid) (e n : ℕ) (run
 unfolding prepare_live
 good_prepare_live home past tid e n run k here =
     good_when home past ((e == epoch home past) && (n == done run)) _ _
-    (λ q. good_pick home past run.ticket _ _ (λ none. good_no home past tid e n k)
+    (λ q. good_given home past run.ticket _ _ (λ none. good_no home past tid e n k)
     (λ ticket took. good_seals home past tid e n run ticket k here took))
     (λ q. good_no home past tid e n k)
 
 good_prepare : (home : Home) (past : SitePast) (tid : Tid) (e n : ℕ) → IsKept home past → IsGoodLine home past (of_prepare home past tid e n)
 unfolding of_prepare votes_again
 good_prepare home past tid e n k =
-    good_pick home past (doubt_of (records home past) tid) _ _
-    (λ none. good_pick home past (live home past tid) _ _ (λ q. good_no home past tid e n k)
+    good_given home past (doubt_of (records home past) tid) _ _
+    (λ none. good_given home past (live home past tid) _ _ (λ q. good_no home past tid e n k)
     (λ run at. good_prepare_live home past tid e n run k (live_here home past tid run k at)))
     (λ held at. good_when home past (held.epoch == e) _ _
     (λ q. still home past (Ev.Give (To.Prepare tid e n)) (Say.VotesYes tid held.ticket) (From.Vote tid (Some held.ticket) ∷ []) k refl)
@@ -297,8 +297,8 @@ good_decide : (home : Home) (past : SitePast) (tid : Tid) (decision : Decision) 
     → IsGoodLine home past (of_decide home past tid decision)
 unfolding of_decide unheld
 good_decide home past tid decision k =
-    good_pick home past (doubt_of (records home past) tid) _ _
-    (λ none. good_pick home past (live home past tid) _ _ (λ q. good_unheld home past tid decision k)
+    good_given home past (doubt_of (records home past) tid) _ _
+    (λ none. good_given home past (live home past tid) _ _ (λ q. good_unheld home past tid decision k)
     (λ run at.
     let here = live_here home past tid run k at in
     one_live home past (Ev.Give (To.Decide tid decision)) (Say.Unheld tid) (ack_of home tid decision) (Aborts tid) run k refl here

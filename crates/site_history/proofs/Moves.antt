@@ -6,7 +6,7 @@ use Rattle.mdb_base.specs.declared.acts.PlainAct.{PlainAct}
 use Rattle.mdb_base.specs.declared.names.Tid.{Tid}
 use Rattle.mdb_base.specs.declared.names.Tx.{Tx}
 use Rattle.mdb_base.specs.declared.replies.Reply.{Reply}
-use Rattle.mdb_base.specs.Words.{when, pick}
+use Rattle.mdb_base.specs.Words.{when, given}
 use Rattle.presumptions.specs.declared.Decision.{Decision}
 use Rattle.presumptions.specs.Table.{forces}
 use Rattle.fed_rules.specs.declared.events.SiteEvent.{SiteEvent}
@@ -80,19 +80,19 @@ unfolding when
 move_when home past local event true x y p q = p refl
 move_when home past local event false x y p q = q refl
 
-move_pick : {A : Type 0} (home : Home) (past : SitePast) (local : Tx → Bool) (event : SiteEvent) (o : Option A) (none : SiteHappening) (some : A → SiteHappening)
+move_given : {A : Type 0} (home : Home) (past : SitePast) (local : Tx → Bool) (event : SiteEvent) (o : Option A) (none : SiteHappening) (some : A → SiteHappening)
     → (o ≡ None → IsMove home past local event none) → ((a : A) → o ≡ Some a → IsMove home past local event (some a))
-    → IsMove home past local event (pick o none some)
-unfolding pick
-move_pick home past local event None none some p q = p refl
-move_pick home past local event (Some a) none some p q = q a refl
+    → IsMove home past local event (given o some none)
+unfolding given
+move_given home past local event None none some p q = p refl
+move_given home past local event (Some a) none some p q = q a refl
 
 move_begin : (home : Home) (past : SitePast) (local : Tx → Bool) (event : SiteEvent) (tid : Tid) → IsKept home past → local tid.tx ≡ true
     → doubt_of (records home past) tid ≡ None → IsMove home past local event (of_begin home past tid)
 unfolding of_begin
 move_begin home past local event tid k mine fresh =
-    move_pick home past local event (local_of (records home past) tid.tx) _ _
-    (λ free. move_pick home past local event (live_of_tx home past tid.tx) _ _
+    move_given home past local event (local_of (records home past) tid.tx) _ _
+    (λ free. move_given home past local event (live_of_tx home past tid.tx) _ _
     (λ none. record { moves = begins_local mine free (begin_free home past tid k none fresh) })
     (λ running e. record { moves = rests }))
     (λ committed e. record { moves = rests })
@@ -101,15 +101,15 @@ move_act : (home : Home) (past : SitePast) (local : Tx → Bool) (event : SiteEv
     → IsMove home past local event (of_act home past tid act)
 unfolding of_act
 move_act home past local event tid act k =
-    move_pick home past local event (live home past tid) _ _ (λ e. record { moves = rests })
+    move_given home past local event (live home past tid) _ _ (λ e. record { moves = rests })
     (λ run e. record { moves = goes_on run (live_here home past tid run k e) tt })
 
 move_commit : (home : Home) (past : SitePast) (local : Tx → Bool) (event : SiteEvent) (tid : Tid) → IsKept home past → local tid.tx ≡ true
     → IsMove home past local event (of_commit home past tid)
 unfolding of_commit seals_local
 move_commit home past local event tid k mine =
-    move_pick home past local event (live home past tid) _ _ (λ e. record { moves = rests })
-    (λ run e. move_pick home past local event (stop_of home past run) _ _
+    move_given home past local event (live home past tid) _ _ (λ e. record { moves = rests })
+    (λ run e. move_given home past local event (stop_of home past run) _ _
     (λ free. record { moves = commits_local run mine (live_here home past tid run k e) })
     (λ why stop. record { moves = goes_on run (live_here home past tid run k e) tt }))
 
@@ -117,27 +117,27 @@ move_abort : (home : Home) (past : SitePast) (local : Tx → Bool) (event : Site
     → IsMove home past local event (of_abort home past tid)
 unfolding of_abort
 move_abort home past local event tid k =
-    move_pick home past local event (live home past tid) _ _ (λ e. record { moves = rests })
+    move_given home past local event (live home past tid) _ _ (λ e. record { moves = rests })
     (λ run e. record { moves = goes_on run (live_here home past tid run k e) tt })
 
 move_fate : (home : Home) (past : SitePast) (local : Tx → Bool) (event : SiteEvent) (tx : Tx) → IsMove home past local event (of_fate home past tx)
 unfolding of_fate
 move_fate home past local event tx =
-    move_pick home past local event (local_of (records home past) tx) _ _
-    (λ e. move_pick home past local event (live_of_tx home past tx) _ _ (λ f. record { moves = rests }) (λ running f. record { moves = rests }))
+    move_given home past local event (local_of (records home past) tx) _ _
+    (λ e. move_given home past local event (live_of_tx home past tx) _ _ (λ f. record { moves = rests }) (λ running f. record { moves = rests }))
     (λ committed e. record { moves = rests })
 
 move_ask : (home : Home) (past : SitePast) (local : Tx → Bool) (event : SiteEvent) (tid : Tid) → IsMove home past local event (of_ask home past tid)
 unfolding of_ask
 move_ask home past local event tid =
-    move_pick home past local event (doubt_of (records home past) tid) _ _ (λ e. record { moves = rests }) (λ held e. record { moves = rests })
+    move_given home past local event (doubt_of (records home past) tid) _ _ (λ e. record { moves = rests }) (λ held e. record { moves = rests })
 
 move_drop : (home : Home) (past : SitePast) (local : Tx → Bool) (event : SiteEvent) (tid : Tid) → IsKept home past
     → IsMove home past local event (of_drop home past tid)
 unfolding of_drop
 move_drop home past local event tid k =
     move_when home past local event (is_local past tid) _ _ (λ e. record { moves = rests })
-    (λ e. move_pick home past local event (live home past tid) _ _ (λ f. record { moves = rests })
+    (λ e. move_given home past local event (live home past tid) _ _ (λ f. record { moves = rests })
     (λ run f. record { moves = goes_on run (live_here home past tid run k f) tt }))
 
 move_unknown : (home : Home) (past : SitePast) (local : Tx → Bool) (event : SiteEvent) (message : ToSite) (tid : Tid) (n : ℕ)
@@ -177,7 +177,7 @@ unfolding of_work
 move_work home past local event tid e n act k others =
     let message = To.Work tid e n act in
     move_when home past local event (is_over home past tid) _ _ (λ q. move_unknown home past local event message tid n)
-    (λ fresh. move_pick home past local event (live home past tid) _ _
+    (λ fresh. move_given home past local event (live home past tid) _ _
     (λ none. move_when home past local event ((e == 0) && (n == 0)) _ _
     (λ q. move_first_work home past local event message tid n act others
     (free_here home past tid k none (not_over home past tid fresh)) fresh)
@@ -204,7 +204,7 @@ unfolding of_take
 move_take home past local event tid e n k others =
     let message = To.Take tid e n in
     move_when home past local event (is_over home past tid) _ _ (λ q. move_unknown home past local event message tid n)
-    (λ fresh. move_pick home past local event (live home past tid) _ _ (λ none. move_unknown home past local event message tid n)
+    (λ fresh. move_given home past local event (live home past tid) _ _ (λ none. move_unknown home past local event message tid n)
     (λ run at. move_take_live home past local event message tid e n run (live_here home past tid run k at) others))
 
 move_seals : (home : Home) (past : SitePast) (local : Tx → Bool) (tid : Tid) (e n : ℕ) (run : Run) (ticket : ℕ)
@@ -212,7 +212,7 @@ move_seals : (home : Home) (past : SitePast) (local : Tx → Bool) (tid : Tid) (
     → IsMove home past local (Ev.Give (To.Prepare tid e n)) (seals_global home past tid e n run ticket)
 unfolding seals_global votes_yes votes_no
 move_seals home past local tid e n run ticket now others here took =
-    move_pick home past local (Ev.Give (To.Prepare tid e n)) (stop_of home past run) _ _
+    move_given home past local (Ev.Give (To.Prepare tid e n)) (stop_of home past run) _ _
     (λ free. record { moves = prepares_run n run (ap (λ c. Ev.Give (To.Prepare tid c n)) now) others here took })
     (λ why stop. record { moves = goes_on run here tt })
 
@@ -222,7 +222,7 @@ move_prepare_live : (home : Home) (past : SitePast) (local : Tx → Bool) (tid :
 unfolding prepare_live votes_no
 move_prepare_live home past local tid e n run others here =
     move_when home past local (Ev.Give (To.Prepare tid e n)) ((e == epoch home past) && (n == done run)) _ _
-    (λ q. move_pick home past local (Ev.Give (To.Prepare tid e n)) run.ticket _ _ (λ none. record { moves = rests })
+    (λ q. move_given home past local (Ev.Give (To.Prepare tid e n)) run.ticket _ _ (λ none. record { moves = rests })
     (λ ticket took. move_seals home past local tid e n run ticket
     (eqb-true e (epoch home past) (and_parts (e == epoch home past) (n == done run) q).0) others here took))
     (λ q. record { moves = rests })
@@ -231,8 +231,8 @@ move_prepare : (home : Home) (past : SitePast) (local : Tx → Bool) (tid : Tid)
     → IsMove home past local (Ev.Give (To.Prepare tid e n)) (of_prepare home past tid e n)
 unfolding of_prepare votes_again votes_no
 move_prepare home past local tid e n k others =
-    move_pick home past local (Ev.Give (To.Prepare tid e n)) (doubt_of (records home past) tid) _ _
-    (λ none. move_pick home past local (Ev.Give (To.Prepare tid e n)) (live home past tid) _ _ (λ q. record { moves = rests })
+    move_given home past local (Ev.Give (To.Prepare tid e n)) (doubt_of (records home past) tid) _ _
+    (λ none. move_given home past local (Ev.Give (To.Prepare tid e n)) (live home past tid) _ _ (λ q. record { moves = rests })
     (λ run at. move_prepare_live home past local tid e n run others (live_here home past tid run k at)))
     (λ held at. move_when home past local (Ev.Give (To.Prepare tid e n)) (held.epoch == e) _ _ (λ q. record { moves = rests }) (λ q. record { moves = rests }))
 
@@ -253,8 +253,8 @@ move_decide : (home : Home) (past : SitePast) (local : Tx → Bool) (event : Sit
     → IsMove home past local event (of_decide home past tid decision)
 unfolding of_decide unheld
 move_decide home past local event tid decision k =
-    move_pick home past local event (doubt_of (records home past) tid) _ _
-    (λ none. move_pick home past local event (live home past tid) _ _ (λ q. record { moves = rests })
+    move_given home past local event (doubt_of (records home past) tid) _ _
+    (λ none. move_given home past local event (live home past tid) _ _ (λ q. record { moves = rests })
     (λ run at. record { moves = goes_on run (live_here home past tid run k at) tt }))
     (λ held at. move_settles home past local event tid decision held at)
 

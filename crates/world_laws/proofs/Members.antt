@@ -10,7 +10,7 @@ use Rattle.mdb_base.specs.declared.replies.Reply.{Reply}
 use Rattle.mdb_base.specs.declared.replies.Reply.TheVariants as Reply_is
 use Rattle.mdb_base.specs.declared.replies.Why.TheVariants as Because
 use Rattle.mdb_base.specs.Names.{same_site}
-use Rattle.mdb_base.specs.Words.{Each, found, pick, some_of, when}
+use Rattle.mdb_base.specs.Words.{Each, found, given, some_of, when}
 use Rattle.mdb_base.proofs.ListLaws.{each_filtered}
 use Rattle.order_laws.specs.Search.{cycle_through}
 use Rattle.order_laws.specs.Tickets.{edge_between}
@@ -95,11 +95,11 @@ module _ (protocols : List Participant) where
   at_when true x y p q = p
   at_when false x y p q = q
 
-  at_pick : {A : Type 0} (o : Option A) (x : CoordHappening) (f : A → CoordHappening) → SendsAmong protocols x → ((a : A) → SendsAmong protocols (f a))
-      → SendsAmong protocols (pick o x f)
-  unfolding pick
-  at_pick None x f p q = p
-  at_pick (Some a) x f p q = q a
+  at_given : {A : Type 0} (o : Option A) (x : CoordHappening) (f : A → CoordHappening) → SendsAmong protocols x → ((a : A) → SendsAmong protocols (f a))
+      → SendsAmong protocols (given o f x)
+  unfolding given
+  at_given None x f p q = p
+  at_given (Some a) x f p q = q a
 
   by_dues : (past : CoordPast) (event : CoordEvent) (tid : Tid) (answer : Answer) (dues : List Due)
       → Each (λ (due : Due). In (due_site due) (sites_in protocols)) dues → SendsAmong protocols (sends_dues protocols past event tid answer dues)
@@ -135,8 +135,8 @@ module _ (protocols : List Participant) where
   by_go : (past : CoordPast) (tid : Tid) (steps : List Step) → SendsAmong protocols (of_go protocols past tid steps)
   unfolding of_go
   by_go past tid steps =
-      at_pick (committed_of (records past) tid.tx) _ _
-      (at_pick (undecided_of past tid.tx) _ _
+      at_given (committed_of (records past) tid.tx) _ _
+      (at_given (undecided_of past tid.tx) _ _
       (record { sends = dues_among tid _ (all_among (quiet (Ev.Go tid steps) (Say.Begun tid) ∷ past) (quiet (Ev.Go tid steps) (Say.Begun tid) ∷ past) tid) })
       (λ running. still _ _))
       (λ committed. still _ _)
@@ -180,7 +180,7 @@ module _ (protocols : List Participant) where
       let now : CoordPast = quiet event Say.Voted ∷ past in
       let tickets = vote_tickets now tid (participants protocols past tid) in
       at_when (all_voted now tid (participants protocols past tid)) _ _
-      (at_pick (cycle_through edge_between (record { tid = tid; tickets = tickets }) (commits (records past))) _ _ (by_commits past event tid tickets)
+      (at_given (cycle_through edge_between (record { tid = tid; tickets = tickets }) (commits (records past))) _ _ (by_commits past event tid tickets)
       (λ edges. by_aborts past event tid (For.Cycle edges))) (still _ _)
 
   by_vote : (past : CoordPast) (site : SiteId) (tid : Tid) (vote : Option ℕ) → SendsAmong protocols (vote_counted protocols past site tid vote)
@@ -221,7 +221,7 @@ module _ (protocols : List Participant) where
   by_fate : (past : CoordPast) (tx : Tx) → SendsAmong protocols (of_fate past tx)
   unfolding of_fate
   by_fate past tx =
-      at_pick (committed_of (records past) tx) _ _ (at_pick (undecided_of past tx) _ _ (still _ _) (λ running. still _ _)) (λ committed. still _ _)
+      at_given (committed_of (records past) tx) _ _ (at_given (undecided_of past tx) _ _ (still _ _) (λ running. still _ _)) (λ committed. still _ _)
 
   by_check : (past : CoordPast) → SendsAmong protocols (of_check protocols past)
   unfolding of_check

@@ -4,7 +4,7 @@ use Rattle.mdb_base.specs.declared.acts.PlainAct.{PlainAct}
 use Rattle.mdb_base.specs.declared.names.Tid.{Tid}
 use Rattle.mdb_base.specs.declared.names.Tx.{Tx}
 use Rattle.mdb_base.specs.declared.replies.Why.{Why}
-use Rattle.mdb_base.specs.Words.{pick, when}
+use Rattle.mdb_base.specs.Words.{given, when}
 use Rattle.presumptions.specs.declared.Decision.{Decision}
 use Rattle.presumptions.specs.Table.{acks}
 use Rattle.fed_rules.specs.declared.answers.Answer.TheVariants as Say
@@ -36,10 +36,10 @@ unfolding when
 few_when event true x y p q = p
 few_when event false x y p q = q
 
-few_pick : {A : Type 0} (event : SiteEvent) (o : Option A) (x : SiteHappening) (f : A → SiteHappening) → SaysFew event x → ((a : A) → SaysFew event (f a)) → SaysFew event (pick o x f)
-unfolding pick
-few_pick event None x f p q = p
-few_pick event (Some a) x f p q = q a
+few_given : {A : Type 0} (event : SiteEvent) (o : Option A) (x : SiteHappening) (f : A → SiteHappening) → SaysFew event x → ((a : A) → SaysFew event (f a)) → SaysFew event (given o f x)
+unfolding given
+few_given event None x f p q = p
+few_given event (Some a) x f p q = q a
 
 few_tripped : (event : SiteEvent) (d : Disk SiteRecord) (armed : Option Trip) (x : SiteHappening) → SaysFew event x → SaysFew event (tripped site_frame d armed x)
 unfolding tripped stopped
@@ -82,13 +82,13 @@ unfolding of_work
 few_work home past tid e n act =
     let m = To.Work tid e n act in
     few_when _ _ _ _ (few_unknown m home past tid n)
-    (few_pick _ _ _ _ (few_when _ _ _ _ (few_first m home past tid n act) (few_unknown m home past tid n)) (λ run. few_work_live m home past tid e n act run))
+    (few_given _ _ _ _ (few_when _ _ _ _ (few_first m home past tid n act) (few_unknown m home past tid n)) (λ run. few_work_live m home past tid e n act run))
 
 few_take : (home : Home) (past : SitePast) (tid : Tid) (e n : ℕ) → SaysFew (Ev.Give (To.Take tid e n)) (of_take home past tid e n)
 unfolding of_take
 few_take home past tid e n =
     let m = To.Take tid e n in
-    few_when _ _ _ _ (few_unknown m home past tid n) (few_pick _ _ _ _ (few_unknown m home past tid n) (λ run. few_take_live m home past tid e n run))
+    few_when _ _ _ _ (few_unknown m home past tid n) (few_given _ _ _ _ (few_unknown m home past tid n) (λ run. few_take_live m home past tid e n run))
 
 few_no : (tid : Tid) (e n : ℕ) (why : Option Why) (lines : List EngineLine) → SaysFew (Ev.Give (To.Prepare tid e n)) (votes_no tid e n why lines)
 unfolding votes_no
@@ -105,10 +105,10 @@ few_yes home past tid e n run ticket = one _ _ (omega arith)
 few_prepare : (home : Home) (past : SitePast) (tid : Tid) (e n : ℕ) → SaysFew (Ev.Give (To.Prepare tid e n)) (of_prepare home past tid e n)
 unfolding of_prepare prepare_live seals_global
 few_prepare home past tid e n =
-    few_pick _ _ _ _
-    (few_pick _ _ _ _ (few_no tid e n _ _)
+    few_given _ _ _ _
+    (few_given _ _ _ _ (few_no tid e n _ _)
     (λ run. few_when _ _ _ _
-    (few_pick _ _ _ _ (few_no tid e n _ _) (λ ticket. few_pick _ _ _ _ (few_yes home past tid e n run ticket) (λ why. few_no tid e n _ _)))
+    (few_given _ _ _ _ (few_no tid e n _ _) (λ ticket. few_given _ _ _ _ (few_yes home past tid e n run ticket) (λ why. few_no tid e n _ _)))
     (few_no tid e n _ _)))
     (λ held. few_when _ _ _ _ (few_again tid e n held) (few_no tid e n _ _))
 
@@ -123,7 +123,7 @@ few_decide : (home : Home) (past : SitePast) (tid : Tid) (decision : Decision) �
 unfolding of_decide settles unheld
 few_decide home past tid decision =
     let h = few_ack home tid decision in
-    few_pick _ _ _ _ (few_pick _ _ _ _ (one _ _ h) (λ run. one _ _ h)) (λ held. one _ _ h)
+    few_given _ _ _ _ (few_given _ _ _ _ (one _ _ h) (λ run. one _ _ h)) (λ held. one _ _ h)
 
 few_give : (home : Home) (past : SitePast) (message : ToSite) → SaysFew (Ev.Give message) (of_give home past message)
 unfolding of_give
@@ -134,31 +134,31 @@ few_give home past (To.Decide tid decision) = few_decide home past tid decision
 
 few_ask : (home : Home) (past : SitePast) (tid : Tid) → SaysFew (Ev.Ask tid) (of_ask home past tid)
 unfolding of_ask
-few_ask home past tid = few_pick _ _ _ _ (still _ _ refl) (λ held. record { few = omega arith; silent = λ no. absurd (no tt) })
+few_ask home past tid = few_given _ _ _ _ (still _ _ refl) (λ held. record { few = omega arith; silent = λ no. absurd (no tt) })
 
 few_begin : (home : Home) (past : SitePast) (tid : Tid) → SaysFew (Ev.Begin tid) (of_begin home past tid)
 unfolding of_begin
-few_begin home past tid = few_pick _ _ _ _ (few_pick _ _ _ _ (still _ _ refl) (λ r. still _ _ refl)) (λ t. still _ _ refl)
+few_begin home past tid = few_given _ _ _ _ (few_given _ _ _ _ (still _ _ refl) (λ r. still _ _ refl)) (λ t. still _ _ refl)
 
 few_act : (home : Home) (past : SitePast) (tid : Tid) (act : PlainAct) → SaysFew (Ev.Act tid act) (of_act home past tid act)
 unfolding of_act
-few_act home past tid act = few_pick _ _ _ _ (still _ _ refl) (λ r. still _ _ refl)
+few_act home past tid act = few_given _ _ _ _ (still _ _ refl) (λ r. still _ _ refl)
 
 few_commit : (home : Home) (past : SitePast) (tid : Tid) → SaysFew (Ev.Commit tid) (of_commit home past tid)
 unfolding of_commit seals_local
-few_commit home past tid = few_pick _ _ _ _ (still _ _ refl) (λ r. few_pick _ _ _ _ (still _ _ refl) (λ why. still _ _ refl))
+few_commit home past tid = few_given _ _ _ _ (still _ _ refl) (λ r. few_given _ _ _ _ (still _ _ refl) (λ why. still _ _ refl))
 
 few_abort : (home : Home) (past : SitePast) (tid : Tid) → SaysFew (Ev.Abort tid) (of_abort home past tid)
 unfolding of_abort
-few_abort home past tid = few_pick _ _ _ _ (still _ _ refl) (λ r. still _ _ refl)
+few_abort home past tid = few_given _ _ _ _ (still _ _ refl) (λ r. still _ _ refl)
 
 few_fate : (home : Home) (past : SitePast) (tx : Tx) → SaysFew (Ev.Fate tx) (of_fate home past tx)
 unfolding of_fate
-few_fate home past tx = few_pick _ _ _ _ (few_pick _ _ _ _ (still _ _ refl) (λ r. still _ _ refl)) (λ t. still _ _ refl)
+few_fate home past tx = few_given _ _ _ _ (few_given _ _ _ _ (still _ _ refl) (λ r. still _ _ refl)) (λ t. still _ _ refl)
 
 few_drop : (home : Home) (past : SitePast) (tid : Tid) → SaysFew (Ev.Drop tid) (of_drop home past tid)
 unfolding of_drop
-few_drop home past tid = few_when _ _ _ _ (still _ _ refl) (few_pick _ _ _ _ (still _ _ refl) (λ r. still _ _ refl))
+few_drop home past tid = few_when _ _ _ _ (still _ _ refl) (few_given _ _ _ _ (still _ _ refl) (λ r. still _ _ refl))
 
 few_check : (home : Home) (past : SitePast) → SaysFew Ev.Check (of_check home past)
 unfolding of_check

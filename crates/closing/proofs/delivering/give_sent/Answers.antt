@@ -1,19 +1,19 @@
 use Rattle.std.proofs.Common.{map, sym, subst}
 use Rattle.fed_world.specs.Worlds.{Stands}
 use Rattle.closing.specs.Towards.{FailsToward, Fits}
-use Rattle.closing.proofs.Grows.{gives_made, given_grows}
+use Rattle.closing.proofs.Grows.{gives_made, last_sends_grow}
 use Rattle.closing.proofs.Towards.{on_failure, on_success, short_here}
 use Rattle.closing.proofs.World.{has_lines}
-use Rattle.closing.specs.Steps.{given}
+use Rattle.closing.specs.Steps.{last_sends_given}
 use Rattle.closing.proofs.delivering.give_sent.Goals as goal
 
 pub returns-in_default-clause-failed : goal.returns-in_default-clause-failed
 returns-in_default-clause-failed g c session commands s fits =
-    short_here g.D.Disk.tells c.args.world.now (map g.D.Disk.seen c.args.disks.now.items) session (given session commands) commands (given_grows session commands) s
+    short_here g.D.Disk.tells c.args.world.now (map g.D.Disk.seen c.args.disks.now.items) session (last_sends_given session commands) commands (last_sends_grow session commands) s
 
 pub returns-in_default-gives-clause-failed : goal.returns-in_default-gives-clause-failed
 returns-in_default-gives-clause-failed g c session commands s fits =
-    short_here g.D.Disk.tells c.args.world.now (map g.D.Disk.seen c.args.disks.now.items) session (given session commands) commands (given_grows session commands) s
+    short_here g.D.Disk.tells c.args.world.now (map g.D.Disk.seen c.args.disks.now.items) session (last_sends_given session commands) commands (last_sends_grow session commands) s
 
 pub carry_out-requires-clause-stood : goal.carry_out-requires-clause-stood
 carry_out-requires-clause-stood g c =

@@ -10,7 +10,7 @@ use Rattle.fed_rules.specs.Closing.{taken}
 use Rattle.fed_world.specs.Worlds.{HasRoom}
 use Rattle.closing.specs.Towards.{Fits}
 use Rattle.fed_world.proofs.Faults.{failed_later, told_later}
-use Rattle.closing.proofs.Grows.{given_grows, taken_grows}
+use Rattle.closing.proofs.Grows.{last_sends_grow, taken_grows}
 use Rattle.closing.proofs.Towards.{Extends, extends_here, extends_one, extends_twice, fails_at, fails_within, fits_less, on_failure, on_success, room_one}
 use Rattle.closing.proofs.exchanging.inquire.Goals as goal
 
@@ -19,7 +19,7 @@ one site tid commands = Cmd.Ask site tid ∷ commands
 
 -- what stands behind the inquiry, and behind its answer
 second : (session : Session) (site : SiteId) (tid : Tid) (commands : List Command) → Extends (rules.inquire session site tid commands) (taken session (one site tid commands))
-second session site tid commands = given_grows session (taken session (one site tid commands))
+second session site tid commands = last_sends_grow session (taken session (one site tid commands))
 
 first : (session : Session) (site : SiteId) (tid : Tid) (commands : List Command) → Extends (rules.inquire session site tid commands) (one site tid commands)
 first session site tid commands =
