@@ -39,8 +39,8 @@ homes_differ [] r = refl
 homes_differ (h ∷ hs) r =
     ap (λ b. not b && all_differ one_site (map site_line_by hs)) (none_alike h hs (rising_over (member_of h) (map member_of hs) r)) ∙ homes_differ hs (rising_on (member_of h) (map member_of hs) r)
 
-pub plan_sites : (scenario : Scenario) → IsScenario scenario → (hs : List Home) → map member_of hs ≡ protocols scenario → AreSites (map site_line_by hs)
-plan_sites scenario whole hs e = record {
+pub sites_of_homes : (scenario : Scenario) → IsScenario scenario → (hs : List Home) → map member_of hs ≡ protocols scenario → AreSites (map site_line_by hs)
+sites_of_homes scenario whole hs e = record {
   range = homes_range hs (subst (Each IsInRange) (sym e) (members_range scenario.sites whole.sites.range));
   differ = homes_differ hs (subst MembersRise (sym e) (members_rise scenario whole));
 }

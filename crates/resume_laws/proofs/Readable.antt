@@ -41,7 +41,7 @@ use Rattle.found_laws.proofs.FoundHomes.{parts_are}
 use Rattle.found_laws.proofs.FoundJournals.{same_home}
 use Rattle.resume_laws.proofs.GoesOn.{any_home, any_installs, each_found}
 use Rattle.resume_laws.proofs.RestsAgain.{all_rest}
-use Rattle.found_laws.proofs.PlanSites.{plan_sites, protocols_rise}
+use Rattle.found_laws.proofs.PlanSites.{protocols_rise, sites_of_homes}
 
 -- ---- a site
 
@@ -130,7 +130,7 @@ module _ (scenario : Scenario) (good : IsScenario scenario) (commands : List Com
   readable = record {
     usable = usable_disks scenario good commands short;
     says = says;
-    plan = plan_sites scenario good (homes (left_by scenario (story_of scenario commands)).sites)
+    plan = sites_of_homes scenario good (homes (left_by scenario (story_of scenario commands)).sites)
         (parts_are (λ site. left_at (story_of scenario commands) (home_of scenario site)) (protocols scenario) (each_found scenario good commands says));
     tables = λ site home declared.
         subst (λ s. TableFits (story_of scenario commands) home (past_of s (story_of scenario commands))) (its-site scenario site home declared) (table_fits home (home-again scenario site home declared));
