@@ -11,6 +11,7 @@ use Rattle.journal_disk.specs.Frames.{IsPayload, frame, frames_size}
 use Rattle.frame_journal.specs.Journal.{EndsWith, IsKeptOn, Kept, NotesOrNot, with_entry}
 use Rattle.frame_journal.specs.Records.{Entry, AreRecordsOf, as_written, before_last, entry_frame, last_alone, records_within, spelled, spelled_size, values}
 use Rattle.journal_rules.specs.Stands.{CountsFrames, StandsFor, record_frame, respelled}
+use Rattle.journal_rules.specs.Torn.{IsTornBy}
 use Rattle.journal_rules.proofs.Journals.{written_frames, written_values}
 use Rattle.journal_rules.proofs.Keeps.{journal_stands}
 use Rattle.journal_rules.proofs.Respelling.{front_held, front_within, kept_respelled, new_front, new_length, old_size, respelled_append, respelled_appends, respelled_cuts, respelled_frames, respelled_is, respelled_journal, respelled_seen, respelled_stop, respelled_sync, respelled_syncs, respelled_trim, size_append, size_respelled, size_stands, values_front}
@@ -133,6 +134,7 @@ module _ {R : Type 0} (spelling : R → List ℕ) (reading : List ℕ → Option
       built spelling reading is_record frame_bytes counts again tells told (respelled_seen spelling l seen) (respelled_journal spelling store.journal) store.standing store.trip rules trip
       (kept_respelled spelling tells seen store.journal l (news_of old rules) k.records k.kept_on)
       (subst (λ (i : Image). StandsFor spelling frame_bytes i rules) (sym (taken_respelled spelling store.standing l seen.image)) k.stands)
+      (subst (λ (i : Image). IsTornBy spelling is_record frame_bytes i rules) (sym (taken_respelled spelling store.standing l seen.image)) k.torn)
       (all_respelled store.journal.entries k.are_records) k.written (firm_front spelling old.end l (taken_as store.standing seen.image) rules k.front) k.trip k.armed
       (in_order_same store.standing store.journal (respelled_journal spelling store.journal) rules refl k.in_order)
 
@@ -149,9 +151,12 @@ module _ {R : Type 0} (spelling : R → List ℕ) (reading : List ℕ → Option
       let records : entries ≡ entries_behind l rs = listed ∙ ap (λ (ns : List R). l ++ map as_written ns) (sym behind) in
       let stands : StandsFor spelling frame_bytes (respelled spelling l (taken_as store.standing seen.image)) rules =
       subst (λ (i : Image). StandsFor spelling frame_bytes i rules) (taken_respelled spelling store.standing l seen.image) s.stands in
+      let torn : IsTornBy spelling is_record frame_bytes (respelled spelling l (taken_as store.standing seen.image)) rules =
+      subst (λ (i : Image). IsTornBy spelling is_record frame_bytes i rules) (taken_respelled spelling store.standing l seen.image) s.torn in
       record {
         kept_on = kept;
         stands = subst (λ (m : List (Entry R)). StandsFor spelling frame_bytes (respelled spelling m (taken_as store.standing seen.image)) rules) (sym at) stands;
+        torn = subst (λ (m : List (Entry R)). IsTornBy spelling is_record frame_bytes (respelled spelling m (taken_as store.standing seen.image)) rules) (sym at) torn;
         records = subst (λ (m : List (Entry R)). entries ≡ entries_behind m rs) (sym at) records;
         are = vals;
         are_records = all;
@@ -164,7 +169,7 @@ module _ {R : Type 0} (spelling : R → List ℕ) (reading : List ℕ → Option
 
   -- the bytes are those of the rules, synced or not, but for how old frames are spelled
   pub holds_behind : (seen : Seen) (store : Stored R) (old : Old R) (rules : Disk R) (trip : Option Trip) → KeepsBehind spelling is_record frame_bytes tells seen store old rules trip
-      → HoldsBytes spelling frame_bytes (respelled spelling (old_standing old rules) seen.image) rules
+      → HoldsBytes spelling is_record frame_bytes (respelled spelling (old_standing old rules) seen.image) rules
   holds_behind seen store old rules trip k =
       let i = respelled spelling (old_standing old rules) seen.image in
       let s = star seen store old rules trip k in
@@ -173,6 +178,7 @@ module _ {R : Type 0} (spelling : R → List ℕ) (reading : List ℕ → Option
       record {
         records = subst (λ (bytes : List ℕ). AreRecordsOf (record_frame spelling) bytes (reverse (journal_of frame_bytes rules))) same (journal_stands spelling frame_bytes counts (taken_as store.standing i) rules s.stands);
         bytes = omega (arith, all.0, ap length same);
+        torn = new_store.torn_bytes spelling reading is_record frame_bytes counts again store.standing i rules s.torn;
       }
 
   -- after a call that trims nothing
@@ -331,6 +337,7 @@ module _ {R : Type 0} (spelling : R → List ℕ) (reading : List ℕ → Option
   reserve_keeps before after store journal old rules trip k kept_on listed torn images = record {
     kept_on = kept_on;
     stands = subst (λ (i : Image). StandsFor spelling frame_bytes (respelled spelling (old_standing old rules) (taken_as store.standing i)) rules) (sym (images told)) k.stands;
+    torn = subst (λ (i : Image). IsTornBy spelling is_record frame_bytes (respelled spelling (old_standing old rules) (taken_as store.standing i)) rules) (sym (images told)) k.torn;
     records = listed ∙ k.records;
     are = ap values listed ∙ k.are;
     are_records = rw listed k.are_records;
@@ -443,7 +450,8 @@ module _ {R : Type 0} (spelling : R → List ℕ) (reading : List ℕ → Option
       let bytes : (respelled spelling l after.image).bytes ≡ take (kept_bytes 0 i) i.bytes = ap (λ (x : Image). (respelled spelling l x).bytes) (images told) ∙ sym (take_all (kept_bytes 0 i) i.bytes (omega (arith, whole))) in
       let listed : journal.entries ≡ l ++ map as_written news = ap (λ (j : Kept R). j.entries) same ∙ k.records in
       let all : AllByRecursion is_record (values journal.entries) = rw same k.are_records in
-      let done = failing_keeps spelling reading is_record frame_bytes counts again tells told (respelled_seen spelling l after) (respelled_journal spelling journal) i rules 0 here s.front bytes k.written
+      let there = new_store.sound_torn spelling reading is_record frame_bytes counts again tells told (respelled_seen spelling l before) (respelled_store spelling store) rules trip s (ap is_failing up) in
+      let done = failing_keeps spelling reading is_record frame_bytes counts again tells told (respelled_seen spelling l after) (respelled_journal spelling journal) i rules 0 here there s.front bytes k.written
       (kept_respelled spelling tells after journal l news listed kept_on) (all_respelled journal.entries all) in
       (0, 0, goes (taken_as store.standing before.image) after (record { journal = journal; trip = None; standing = Failing }) old rules (after_call frame_bytes rules (Stops 0)) None news k.front refl listed kept_on all (held after journal l news listed kept_on) done)
 
@@ -453,6 +461,7 @@ module _ {R : Type 0} (spelling : R → List ℕ) (reading : List ℕ → Option
   none_behind seen store old rules trip none k = record {
     kept_on = k.kept_on;
     stands = subst (λ (m : List (Entry R)). StandsFor spelling frame_bytes (respelled spelling m (taken_as store.standing seen.image)) rules) (sym none) k.stands;
+    torn = subst (λ (m : List (Entry R)). IsTornBy spelling is_record frame_bytes (respelled spelling m (taken_as store.standing seen.image)) rules) (sym none) k.torn;
     records = subst (λ (m : List (Entry R)). store.journal.entries ≡ entries_behind m (reverse (journal_of frame_bytes rules))) (sym none) k.records;
     are = k.are;
     are_records = k.are_records;

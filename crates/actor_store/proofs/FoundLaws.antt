@@ -7,18 +7,20 @@ use Rattle.fed_rules.specs.Disk.{Disk, bytes_of, journal as journal_of}
 use Rattle.fed_rules.specs.Found.{Journal}
 use Rattle.fed_rules.specs.Happenings.{Trip}
 use Rattle.journal_disk.specs.Disk.{Image, Seen}
-use Rattle.journal_disk.specs.Frames.{AreRight, AreWhole, Frame, IsFrame, IsPayload, IsRight, frames}
+use Rattle.journal_disk.specs.Frames.{AreRight, AreWhole, Frame, IsFrame, IsPayload, IsRight, frame, frames}
 use Rattle.journal_disk.proofs.Whole.{written_is_frame}
 use Rattle.frame_journal.specs.Journal.{IsKeptOn, Kept}
 use Rattle.frame_journal.specs.Records.{Entry, AreRecordsOf, as_written, entry_frame, spelled, spelled_size, values}
 use Rattle.frame_journal.proofs.Apart.{one_list}
 use Rattle.frame_journal.proofs.Keeping.{length-frames, frames_append}
 use Rattle.journal_rules.specs.Stands.{CountsFrames, StandsFor, record_frame, respelled}
+use Rattle.journal_rules.specs.Torn.{IsPartOf, IsRestOf, IsTornBy, rest_of}
 use Rattle.std.proofs.lemmas.Bool.{lt-ltb}
 use Rattle.frame_journal.proofs.Entries.{new_size}
 use Rattle.journal_rules.proofs.Journals.{bytes_of_append, all_reverse, all_standing, written_frames, written_values}
 use Rattle.journal_rules.proofs.Respelling.{kept_respelled, respelled_journal, respelled_seen, values_front}
 use Rattle.journal_rules.proofs.Keeps.{journal_is, journal_stands, sizes_agree}
+use Rattle.journal_rules.proofs.Torn.{part_none, untorn_rest}
 use Rattle.actor_store.specs.declared.store.Standing.TheVariants.{Down}
 use Rattle.actor_store.specs.Found.{IsFoundIn}
 use Rattle.actor_store.specs.Store.{IsFirmFront, IsFoundBehind, IsFoundFront, KeepsBehind, Old, Stored, none_old, old_standing, untrimmed}
@@ -120,9 +122,10 @@ module _ {R : Type 0} (spelling : R → List ℕ) (reading : List ℕ → Option
       let listed : journal.entries ≡ l ++ map as_written r.news = one_list spelling reading is_record again seen.image.bytes journal.entries (l ++ map as_written r.news) entries r.all (kept.records told) whole in
       let firm : IsFirmFront spelling old.end l seen.image rules = subst (λ (i : Image). IsFirmFront spelling old.end l i rules) (sym same) (firm_found old.end l image rules f.front) in
       let stands : StandsFor spelling frame_bytes (respelled spelling l seen.image) rules = subst (λ (i : Image). StandsFor spelling frame_bytes (respelled spelling l i) rules) (sym same) f.stands in
+      let torn : IsTornBy spelling is_record frame_bytes (respelled spelling l seen.image) rules = subst (λ (i : Image). IsTornBy spelling is_record frame_bytes (respelled spelling l i) rules) (sym same) f.torn in
       unstar spelling reading is_record frame_bytes counts again tells told seen (record { journal = journal; trip = None; standing = Down }) old rules None l r.news refl listed kept entries firm
       (built spelling reading is_record frame_bytes counts again tells told (respelled_seen spelling l seen) (respelled_journal spelling journal) Down None rules None
-      (kept_respelled spelling tells seen journal l r.news listed kept) stands (all_respelled spelling reading is_record frame_bytes counts again tells told journal.entries entries) f.written (firm_front spelling old.end l seen.image rules firm) refl tt f.synced)
+      (kept_respelled spelling tells seen journal l r.news listed kept) stands torn (all_respelled spelling reading is_record frame_bytes counts again tells told journal.entries entries) f.written (firm_front spelling old.end l seen.image rules firm) refl tt f.synced)
 
 module _ {R : Type 0} (spelling : R → List ℕ) (is_record : R → Type 0) (frame_bytes : R → ℕ) (counts : CountsFrames spelling frame_bytes) where
   -- right frames of any version are right as version 2
@@ -141,15 +144,31 @@ module _ {R : Type 0} (spelling : R → List ℕ) (is_record : R → Type 0) (fr
       let again = (kept_respelled spelling true seen journal entries [] (sym (append-nil entries)) kept).records refl in
       subst (AreWhole (respelled spelling entries image).bytes) (written_frames spelling (values entries)) again
 
+  -- the rules take the rest for that of a record that can't be written, where there is a rest
+  pub record IsUnread (rules : Disk R) (torn : ℕ) : Type 0 where
+    pub taken_for : R
+    pub lost : rules.lost ≡ Some taken_for
+    pub unwritten : is_record taken_for → torn ≡ 0
+
+  found_torn : (image : Image) (rules : Disk R) (torn : ℕ) → StandsFor spelling frame_bytes image rules → rules.length ≡ bytes_of frame_bytes rules.records + torn → IsUnread rules torn → IsTornBy spelling is_record frame_bytes image rules
+  found_torn image rules torn stands long u =
+      let whole = frame (spelling u.taken_for) in
+      let some : 0 < length whole = omega (arith, new_size (spelling u.taken_for)) in
+      let none : is_record u.taken_for → rest_of frame_bytes rules image ≡ [] =
+      λ holds. let fits = u.unwritten holds in untorn_rest spelling frame_bytes counts image rules stands (omega (arith, long, fits)) in
+      let there : is_record u.taken_for → IsPartOf whole (rest_of frame_bytes rules image) = λ holds. subst (IsPartOf whole) (sym (none holds)) (part_none whole some) in
+      let P : Option R → Type 0 = λ o. IsRestOf spelling is_record o (rest_of frame_bytes rules image) in
+      subst P (sym u.lost) there
+
   -- where entries of either version stand on the disk, all that stands, and older records are trimmed, the image is found behind these entries
   pub found_behind : (image : Image) (rules : Disk R) (entries : List (Entry R)) (newer older : List R) (torn : ℕ) → 0 < length entries
       → AreRecordsOf (entry_frame spelling) image.bytes entries → values entries ≡ reverse newer → length image.bytes ≡ spelled_size (entry_frame spelling) entries + torn → image.synced ≡ length image.bytes
       → AllByRecursion is_record rules.records → AllByRecursion (λ (r : R). IsPayload (spelling r)) older → rules.records ≡ newer ++ older → rules.trimmed ≡ bytes_of frame_bytes older
-      → rules.length ≡ bytes_of frame_bytes rules.records + torn → rules.synced ≡ rules.length
+      → rules.length ≡ bytes_of frame_bytes rules.records + torn → rules.synced ≡ rules.length → IsUnread rules torn
       → IsFoundBehind spelling is_record frame_bytes image (record { entries = entries; end = bytes_of frame_bytes rules.records }) rules
   unfolding found_stands
-  found_behind image rules [] newer older torn some whole are long synced written fits parts border length_is all = absurd (omega (arith, some))
-  found_behind image rules (e ∷ l) newer older torn some whole are long synced written fits parts border length_is all =
+  found_behind image rules [] newer older torn some whole are long synced written fits parts border length_is all unread = absurd (omega (arith, some))
+  found_behind image rules (e ∷ l) newer older torn some whole are long synced written fits parts border length_is all unread =
       let entries : List (Entry R) = e ∷ l in
       let end = bytes_of frame_bytes rules.records in
       let w = spelled_size (record_frame spelling) (values entries) in
@@ -173,6 +192,7 @@ module _ {R : Type 0} (spelling : R → List ℕ) (is_record : R → Type 0) (fr
       } in
       record {
         stands = subst (λ (m : List (Entry R)). StandsFor spelling frame_bytes (respelled spelling m image) rules) (sym at) stands;
+        torn = subst (λ (m : List (Entry R)). IsTornBy spelling is_record frame_bytes (respelled spelling m image) rules) (sym at) (found_torn (respelled spelling entries image) rules torn stands length_is unread);
         written = written;
         front = subst (λ (m : List (Entry R)). IsFoundFront spelling frame_bytes end m image rules) (sym at) front;
         synced = all;
@@ -184,9 +204,13 @@ module _ {R : Type 0} (spelling : R → List ℕ) (is_record : R → Type 0) (fr
   -- a journal that is found is behind some entries the disk of its records, with older ones trimmed before them
   pub found_in : (image : Image) (journal : Journal R) (rules : Disk R) (older : List R) → IsFoundIn spelling is_record image journal → AllByRecursion is_record older
       → AllByRecursion (λ (r : R). IsPayload (spelling r)) older → rules.records ≡ journal.records ++ older → rules.trimmed ≡ bytes_of frame_bytes older
-      → rules.length ≡ bytes_of frame_bytes rules.records + journal.torn → rules.synced ≡ rules.length → (old : Old R) × IsFoundBehind spelling is_record frame_bytes image old rules
-  found_in image journal rules older f are_records fits parts border long synced = by_entries f.entries f.whole f.are f.long
+      → rules.length ≡ bytes_of frame_bytes rules.records + journal.torn → rules.synced ≡ rules.length
+      → (taken_for : R) → rules.lost ≡ Some taken_for → (is_record taken_for → journal.torn ≡ 0) → (old : Old R) × IsFoundBehind spelling is_record frame_bytes image old rules
+  found_in image journal rules older f are_records fits parts border long synced taken_for lost unwritten = by_entries f.entries f.whole f.are f.long
     where
+      unread : IsUnread rules journal.torn
+      unread = record { taken_for = taken_for; lost = lost; unwritten = unwritten }
+
       written : AllByRecursion is_record rules.records
       written = subst (AllByRecursion is_record) (sym parts) (all_append is_record journal.records older f.in_range are_records)
 
@@ -195,17 +219,19 @@ module _ {R : Type 0} (spelling : R → List ℕ) (is_record : R → Type 0) (fr
       by_entries [] whole are length_is =
           let none : journal.records ≡ [] = none_reversed journal.records are in
           let those : AreRecordsOf (record_frame spelling) image.bytes (reverse journal.records) = subst (AreRecordsOf (record_frame spelling) image.bytes) (ap reverse (sym none)) whole in
-          let size : bytes_of frame_bytes rules.records ≡ bytes_of frame_bytes older = ap (bytes_of frame_bytes) (parts ∙ ap (λ (rs : List R). rs ++ older) none) in (
+          let size : bytes_of frame_bytes rules.records ≡ bytes_of frame_bytes older = ap (bytes_of frame_bytes) (parts ∙ ap (λ (rs : List R). rs ++ older) none) in
+          let stands = found_stands spelling frame_bytes counts image rules journal.records older those fits parts border (omega (arith, long, size, border, length_is)) (omega (arith, long, synced, size, border, length_is, f.synced)) in (
             none_old,
             record {
-              stands = found_stands spelling frame_bytes counts image rules journal.records older those fits parts border (omega (arith, long, size, border, length_is)) (omega (arith, long, synced, size, border, length_is, f.synced));
+              stands = stands;
+              torn = found_torn image rules journal.torn stands long unread;
               written = written;
               front = omega (arith, long, synced, size, border);
               synced = synced;
             },
           )
       by_entries (e ∷ entries) whole are length_is =
-          (_, found_behind image rules (e ∷ entries) journal.records older journal.torn (omega arith) whole are length_is f.synced written fits parts border long synced)
+          (_, found_behind image rules (e ∷ entries) journal.records older journal.torn (omega arith) whole are length_is f.synced written fits parts border long synced unread)
 
 module _ {R : Type 0} (spelling : R → List ℕ) (reading : List ℕ → Option R) (is_record : R → Type 0) (frame_bytes : R → ℕ) (counts : CountsFrames spelling frame_bytes) (again : (entry : R) → is_record entry → reading (spelling entry) ≡ Some entry) (tells : Bool) (told : IsTrue tells) where
   -- what is read of a disk, all of which is synced, is found there

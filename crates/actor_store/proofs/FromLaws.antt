@@ -47,6 +47,7 @@ module _ {R : Type 0} {spelling : R → List ℕ} {is_record : R → Type 0} {fr
         behind = record {
           kept_on = b.kept_on;
           stands = b.stands;
+          torn = b.torn;
           records = b.records;
           are = b.are;
           are_records = b.are_records;

@@ -6,7 +6,9 @@ use Rattle.journal_disk.specs.Disk.{Image, Seen, IsSound, no_bytes}
 use Rattle.frame_journal.specs.Journal.{new_journal}
 use Rattle.frame_journal.proofs.Keeping.{new_is_kept}
 use Rattle.journal_rules.specs.Stands.{CountsFrames, StandsFor}
+use Rattle.journal_rules.specs.Torn.{IsTornBy}
 use Rattle.journal_rules.proofs.Keeps.{from_empty}
+use Rattle.journal_rules.proofs.Torn.{empty_torn}
 use Rattle.actor_store.specs.declared.store.Standing.TheVariants.{Up}
 use Rattle.actor_store.specs.Store.{Keeps}
 use Rattle.actor_store.proofs.StoreLaws.{built}
@@ -21,4 +23,5 @@ module _ {R : Type 0} (spelling : R → List ℕ) (reading : List ℕ → Option
       let bytes : seen.image.bytes ≡ [] = nil_from_length seen.image.bytes (omega (arith, empty, sized)) in
       let same : seen.image ≡ no_bytes = image_is seen.image bytes (omega (arith, empty, sized, sound)) in
       let stands = subst (λ (i : Image). StandsFor spelling frame_bytes i empty_disk) (sym same) (from_empty spelling frame_bytes counts [] tt) in
-      built spelling reading is_record frame_bytes counts again tells told seen new_journal Up None empty_disk None (new_is_kept spelling tells seen empty (λ t. bytes)) stands tt tt (omega arith) refl tt refl
+      let torn = subst (λ (i : Image). IsTornBy spelling is_record frame_bytes i empty_disk) (sym same) (empty_torn spelling frame_bytes counts is_record) in
+      built spelling reading is_record frame_bytes counts again tells told seen new_journal Up None empty_disk None (new_is_kept spelling tells seen empty (λ t. bytes)) stands torn tt tt (omega arith) refl tt refl

@@ -1,19 +1,21 @@
 -- What a store stands for after each call.
-use Rattle.std.proofs.Common.{◌≡◌, ℕ, ◌+◌, ◌-◌, ◌≤◌, min, Bool, false, ltb, IsTrue, Option, None, List, [], ◌∷◌, ◌++◌, length, map, take, refl, sym, ap, subst, ◌∙◌, arith, inl, inr, Some}
+use Rattle.std.proofs.Common.{◌≡◌, ℕ, ◌+◌, ◌-◌, ◌≤◌, min, Bool, false, ltb, IsTrue, Option, None, List, [], ◌∷◌, ◌++◌, length, map, take, drop, refl, sym, ap, subst, ◌∙◌, arith, inl, inr, Some}
 use Rattle.std.specs.Prelude.{reverse}
 use Rattle.std.specs.List.{AllByRecursion}
 use Rattle.std.proofs.Math.Seq.{take-append-add}
 use Rattle.std.proofs.lemmas.List.{length-append, length-map, length-reverse, take_all}
 use Rattle.mdb_base.specs.Words.{map_some}
-use Rattle.fed_rules.specs.Disk.{Append, Sync, Stops, Disk, after_call, is_torn, journal as journal_of}
+use Rattle.fed_rules.specs.Disk.{Append, Sync, Stops, Disk, after_call, bytes_of, is_torn, journal as journal_of}
 use Rattle.fed_rules.specs.Happenings.{Trip}
 use Rattle.journal_disk.specs.Disk.{Image, Seen, appended, all_synced, stopped, kept_bytes, synced_bytes, AppendsSome, SyncsSome, IsSound}
 use Rattle.journal_disk.specs.Frames.{IsPayload, frame}
 use Rattle.frame_journal.specs.Journal.{Kept, IsKeptOn, NotesOrNot, with_entry}
 use Rattle.frame_journal.specs.Records.{Entry, as_written, entry_frame, spelled_size, values}
 use Rattle.journal_rules.specs.Stands.{CountsFrames, StandsFor}
+use Rattle.journal_rules.specs.Torn.{IsRestOf, IsTornBy}
 use Rattle.journal_rules.proofs.Keeps.{call_stands}
 use Rattle.journal_rules.proofs.Journals.{all_whole, entries_follow, torn_follows, written_values}
+use Rattle.journal_rules.proofs.Torn.{call_torn}
 use Rattle.actor_store.specs.declared.store.SetTrip.{SetTrip}
 use Rattle.actor_store.specs.declared.store.Standing.{Standing}
 use Rattle.actor_store.specs.declared.store.Standing.TheVariants.{Up, Down, Failing}
@@ -63,6 +65,11 @@ module _ {R : Type 0} (spelling : R → List ℕ) (reading : List ℕ → Option
       let t = s.trimmed in
       (omega (arith, all, length-append s.front image.bytes, t), omega (arith, synced, t))
 
+  -- what stands behind the last whole frame, synced or not
+  pub torn_bytes : (standing : Standing) (image : Image) (rules : Disk R) → IsTornBy spelling is_record frame_bytes (taken_as standing image) rules → IsTornBy spelling is_record frame_bytes image rules
+  torn_bytes standing image rules torn =
+      subst (λ (bytes : List ℕ). IsRestOf spelling is_record rules.lost (drop (bytes_of frame_bytes rules.records - rules.trimmed) bytes)) (taken_bytes standing image) torn
+
   -- a stop follows the rules, and leaves what was trimmed before it
   pub call_follows : (image : Image) (rules : Disk R) (cut : ℕ) → StandsFor spelling frame_bytes image rules → rules.trimmed ≤ rules.synced → StandsFor spelling frame_bytes (stopped cut image) (after_call frame_bytes rules (Stops cut))
   call_follows image rules cut s front = call_stands spelling frame_bytes counts image rules (Stops cut) s front
@@ -76,17 +83,25 @@ module _ {R : Type 0} (spelling : R → List ℕ) (reading : List ℕ → Option
       let same : all_synced new ≡ stopped cut i = ap synced_bytes e in
       rw same (call_follows i rules cut s front)
 
+  -- and tore the frame that the stop cuts
+  pub fail_torn : (i new : Image) (rules : Disk R) (cut : ℕ) → StandsFor spelling frame_bytes i rules → rules.trimmed ≤ rules.synced → IsTornBy spelling is_record frame_bytes i rules → new.bytes ≡ take (kept_bytes cut i) i.bytes
+      → IsTornBy spelling is_record frame_bytes (all_synced new) (after_call frame_bytes rules (Stops cut))
+  fail_torn i new rules cut s front torn e =
+      let same : all_synced new ≡ stopped cut i = ap synced_bytes e in
+      subst (λ (j : Image). IsTornBy spelling is_record frame_bytes j (after_call frame_bytes rules (Stops cut))) (sym same) (call_torn spelling frame_bytes counts is_record i rules (Stops cut) s front torn)
+
   module _ (tells : Bool) (told : IsTrue tells) where
     -- the facts of which the others follow
     pub built : (seen : Seen) (journal : Kept R) (standing : Standing) (trip : Option SetTrip) (rules : Disk R) (in_force : Option Trip) → IsKeptOn spelling tells seen journal → StandsFor spelling frame_bytes (taken_as standing seen.image) rules
-        → AllByRecursion is_record (values journal.entries) → AllByRecursion is_record rules.records → rules.trimmed ≤ rules.synced → map_some trip_of_rules trip ≡ in_force → IsArmed trip → IsInOrder standing journal rules
+        → IsTornBy spelling is_record frame_bytes (taken_as standing seen.image) rules → AllByRecursion is_record (values journal.entries) → AllByRecursion is_record rules.records → rules.trimmed ≤ rules.synced → map_some trip_of_rules trip ≡ in_force → IsArmed trip → IsInOrder standing journal rules
         → Keeps spelling is_record frame_bytes tells seen (record { journal = journal; trip = trip; standing = standing }) rules in_force
-    built seen journal standing trip rules in_force kept stands entries written front is armed in_order =
+    built seen journal standing trip rules in_force kept stands torn entries written front is armed in_order =
         let records : journal.entries ≡ map as_written (reverse (journal_of frame_bytes rules)) =
         entries_follow spelling reading is_record frame_bytes counts again tells (taken standing seen) journal rules told (kept_taken spelling tells standing seen journal kept) stands entries written in
         record {
           kept_on = kept;
           stands = stands;
+          torn = torn;
           records = records;
           are = ap values records ∙ written_values (reverse (journal_of frame_bytes rules));
           are_records = entries;
@@ -106,6 +121,9 @@ module _ {R : Type 0} (spelling : R → List ℕ) (reading : List ℕ → Option
     pub sound_stands : (seen : Seen) (store : Stored R) (rules : Disk R) (trip : Option Trip) → Keeps spelling is_record frame_bytes tells seen store rules trip → is_failing store.standing ≡ false → StandsFor spelling frame_bytes seen.image rules
     sound_stands seen store rules trip k sound = let e = taken_sound store.standing seen.image sound in rw e at k.stands
 
+    pub sound_torn : (seen : Seen) (store : Stored R) (rules : Disk R) (trip : Option Trip) → Keeps spelling is_record frame_bytes tells seen store rules trip → is_failing store.standing ≡ false → IsTornBy spelling is_record frame_bytes seen.image rules
+    sound_torn seen store rules trip k sound = subst (λ (i : Image). IsTornBy spelling is_record frame_bytes i rules) (taken_sound store.standing seen.image sound) k.torn
+
     pub stop_keeps : (old new : Seen) (store : Stored R) (journal : Kept R) (rules : Disk R) (trip : Option Trip) (cut kept : ℕ)
         → Keeps spelling is_record frame_bytes tells old store rules trip → is_failing store.standing ≡ false
         → IsKeptOn spelling tells new journal → kept ≡ length (values journal.entries) → AllByRecursion is_record (values journal.entries)
@@ -116,7 +134,9 @@ module _ {R : Type 0} (spelling : R → List ℕ) (reading : List ℕ → Option
         let e : new.image ≡ stopped cut old.image = images told in
         let after = after_call frame_bytes rules (Stops cut) in
         let now : StandsFor spelling frame_bytes new.image after = rw e (call_follows old.image rules cut here k.front) in
-        let done = built new journal Down None after None kept_on now are_records (all_whole is_record frame_bytes (min rules.length (rules.synced + cut)) rules.records k.written) (stop_front old.image rules cut here k.front) refl tt refl in
+        let torn : IsTornBy spelling is_record frame_bytes new.image after =
+        subst (λ (i : Image). IsTornBy spelling is_record frame_bytes i after) (sym e) (call_torn spelling frame_bytes counts is_record old.image rules (Stops cut) here k.front (sound_torn old store rules trip k sound)) in
+        let done = built new journal Down None after None kept_on now torn are_records (all_whole is_record frame_bytes (min rules.length (rules.synced + cut)) rules.records k.written) (stop_front old.image rules cut here k.front) refl tt refl in
         let listed = done.records in
         (done, omega (arith, count, ap length listed, length-map journal.entries (λ entry. entry.value), length-map (reverse (journal_of frame_bytes after)) (as_written {R = R}), length-reverse (journal_of frame_bytes after)))
 
@@ -145,17 +165,19 @@ module _ {R : Type 0} (spelling : R → List ℕ) (reading : List ℕ → Option
         let e : new.image ≡ appended (frame (spelling entry)) old.image = images told in
         let stands : StandsFor spelling frame_bytes new.image after = rw e now in
         let sees : taken_as store.standing new.image ≡ new.image = taken_sound store.standing new.image (ap is_failing up) in
+        let there : IsTornBy spelling is_record frame_bytes (taken_as store.standing new.image) after =
+        subst (λ (i : Image). IsTornBy spelling is_record frame_bytes i after) (sym (sees ∙ e)) (call_torn spelling frame_bytes counts is_record old.image rules (Append entry) here (whole, fits) (sound_torn old store rules trip k (ap is_failing up))) in
         let listed : journal.entries ≡ store.journal.entries ++ as_written entry ∷ [] = ap (λ j. j.entries) noted in
-        built new journal store.standing store.trip after trip kept_on (rw sees stands) (rw listed (values_push is_record store.journal.entries entry k.are_records is_rec)) (is_rec, k.written) k.front k.trip k.armed
+        built new journal store.standing store.trip after trip kept_on (rw sees stands) there (rw listed (values_push is_record store.journal.entries entry k.are_records is_rec)) (is_rec, k.written) k.front k.trip k.armed
         (let P : Standing → Type 0 = λ st. IsInOrder st journal after in subst P (sym up) (ap (λ j. j.is_torn) noted ∙ torn))
 
     -- a failed call that left bytes of this image
     pub failing_keeps : (new : Seen) (journal : Kept R) (i : Image) (rules : Disk R) (cut : ℕ)
-        → StandsFor spelling frame_bytes i rules → rules.trimmed ≤ rules.synced → new.image.bytes ≡ take (kept_bytes cut i) i.bytes → AllByRecursion is_record rules.records
+        → StandsFor spelling frame_bytes i rules → IsTornBy spelling is_record frame_bytes i rules → rules.trimmed ≤ rules.synced → new.image.bytes ≡ take (kept_bytes cut i) i.bytes → AllByRecursion is_record rules.records
         → IsKeptOn spelling tells new journal → AllByRecursion is_record (values journal.entries)
         → Keeps spelling is_record frame_bytes tells new (record { journal = journal; trip = None; standing = Failing }) (after_call frame_bytes rules (Stops cut)) None
-    failing_keeps new journal i rules cut s front bytes written kept_on entries =
-        built new journal Failing None (after_call frame_bytes rules (Stops cut)) None kept_on (fail_stands i new.image rules cut s front bytes) entries (all_whole is_record frame_bytes (min rules.length (rules.synced + cut)) rules.records written) (stop_front i rules cut s front) refl tt refl
+    failing_keeps new journal i rules cut s torn front bytes written kept_on entries =
+        built new journal Failing None (after_call frame_bytes rules (Stops cut)) None kept_on (fail_stands i new.image rules cut s front bytes) (fail_torn i new.image rules cut s front torn bytes) entries (all_whole is_record frame_bytes (min rules.length (rules.synced + cut)) rules.records written) (stop_front i rules cut s front) refl tt refl
 
     -- an append that failed
     pub append_fails : (old new : Seen) (store : Stored R) (journal : Kept R) (rules : Disk R) (trip : Option Trip) (entry : R) → length old.image.bytes ≡ old.size
@@ -178,7 +200,8 @@ module _ {R : Type 0} (spelling : R → List ℕ) (reading : List ℕ → Option
         let kept : kept_bytes cut i ≡ length old_bytes + some.0 = omega (arith, length-append old_bytes f, some.1, sound) in
         let bytes : new.image.bytes ≡ take (kept_bytes cut i) i.bytes =
         ap (λ (x : Image). x.bytes) some.2 ∙ sym (take-append-add old_bytes f some.0) ∙ ap (λ (m : ℕ). take m (old_bytes ++ f)) (sym kept) in
-        (1, cut, failing_keeps new journal i after cut now k.front bytes (is_rec, k.written) kept_on (noted_are_records store.journal journal entry noted k.are_records is_rec))
+        let there = call_torn spelling frame_bytes counts is_record old.image rules (Append entry) here (whole, fits) (sound_torn old store rules trip k (ap is_failing up)) in
+        (1, cut, failing_keeps new journal i after cut now there k.front bytes (is_rec, k.written) kept_on (noted_are_records store.journal journal entry noted k.are_records is_rec))
 
     -- a sync that was done
     pub sync_keeps : (old new : Seen) (store : Stored R) (rules : Disk R) (trip : Option Trip)
@@ -191,8 +214,10 @@ module _ {R : Type 0} (spelling : R → List ℕ) (reading : List ℕ → Option
         let e : new.image ≡ all_synced old.image = images told in
         let stands : StandsFor spelling frame_bytes new.image after = rw e (call_stands spelling frame_bytes counts old.image rules Sync here tt) in
         let sees : taken_as store.standing new.image ≡ new.image = taken_sound store.standing new.image (ap is_failing up) in
+        let torn : IsTornBy spelling is_record frame_bytes (taken_as store.standing new.image) after =
+        subst (λ (i : Image). IsTornBy spelling is_record frame_bytes i after) (sym (sees ∙ e)) (call_torn spelling frame_bytes counts is_record old.image rules Sync here tt (sound_torn old store rules trip k (ap is_failing up))) in
         let n = sizes old.image rules here in
-        built new store.journal store.standing store.trip after trip (synced_on old new store.journal k.kept_on (ap (λ (x : Image). x.bytes) e) sizes_same room) (rw sees stands) k.are_records k.written (omega (arith, n.0)) k.trip k.armed
+        built new store.journal store.standing store.trip after trip (synced_on old new store.journal k.kept_on (ap (λ (x : Image). x.bytes) e) sizes_same room) (rw sees stands) torn k.are_records k.written (omega (arith, n.0)) k.trip k.armed
         (let P : Standing → Type 0 = λ st. IsInOrder st store.journal after in subst P (sym up) (let Q : Standing → Type 0 = λ st. IsInOrder st store.journal rules in subst Q up k.in_order))
 
     -- a sync that failed
@@ -208,7 +233,8 @@ module _ {R : Type 0} (spelling : R → List ℕ) (reading : List ℕ → Option
         let i = all_synced old.image in
         let n = sizes old.image rules here in
         let bytes : new.image.bytes ≡ take (kept_bytes 0 i) i.bytes = same ∙ sym (take_all (kept_bytes 0 i) old.image.bytes (omega arith)) in
-        (1, 0, failing_keeps new store.journal i after 0 now (omega (arith, n.0)) bytes k.written (synced_on old new store.journal k.kept_on same sizes_same room) k.are_records)
+        let torn = call_torn spelling frame_bytes counts is_record old.image rules Sync here tt (sound_torn old store rules trip k (ap is_failing up)) in
+        (1, 0, failing_keeps new store.journal i after 0 now torn (omega (arith, n.0)) bytes k.written (synced_on old new store.journal k.kept_on same sizes_same room) k.are_records)
 
     -- room for more records
     pub reserve_keeps : (old new : Seen) (store : Stored R) (journal : Kept R) (rules : Disk R) (trip : Option Trip)
@@ -218,7 +244,8 @@ module _ {R : Type 0} (spelling : R → List ℕ) (reading : List ℕ → Option
     reserve_keeps old new store journal rules trip k kept_on listed torn images =
         let e : new.image ≡ old.image = images told in
         let stands : StandsFor spelling frame_bytes (taken_as store.standing new.image) rules = rw e k.stands in
-        built new journal store.standing store.trip rules trip kept_on stands (rw listed k.are_records) k.written k.front k.trip k.armed (in_order store.standing k.in_order)
+        let there = subst (λ (i : Image). IsTornBy spelling is_record frame_bytes (taken_as store.standing i) rules) (sym e) k.torn in
+        built new journal store.standing store.trip rules trip kept_on stands there (rw listed k.are_records) k.written k.front k.trip k.armed (in_order store.standing k.in_order)
       where
         in_order : (standing : Standing) → IsInOrder standing store.journal rules → IsInOrder standing journal rules
         in_order Up o = torn ∙ o

@@ -11,13 +11,15 @@ use Rattle.frame_journal.specs.Journal.{Kept, EndsWith, IsKeptOn}
 use Rattle.frame_journal.specs.Records.{Entry, as_written, before_last, entry_frame, last_alone, spelled_size, values}
 use Rattle.frame_journal.proofs.Sizes.{size_split}
 use Rattle.journal_rules.specs.Stands.{CountsFrames, StandsFor}
+use Rattle.journal_rules.specs.Torn.{IsTornBy}
 use Rattle.journal_rules.proofs.Keeps.{call_stands, journal_is, sizes_agree}
 use Rattle.journal_rules.proofs.Journals.{before_last_push, bytes_of_append, written_frames}
+use Rattle.journal_rules.proofs.Torn.{call_torn}
 use Rattle.actor_store.specs.declared.store.Standing.{Standing}
 use Rattle.actor_store.specs.declared.store.Standing.TheVariants.{Up, Down, Failing}
 use Rattle.actor_store.specs.Store.{Stored, IsInOrder, Keeps, is_failing, taken_as, stopped_disk}
 use Rattle.actor_store.proofs.CutLaws.{whole_is}
-use Rattle.actor_store.proofs.StoreLaws.{built, failing_keeps, sizes, sound_stands, taken_sound}
+use Rattle.actor_store.proofs.StoreLaws.{built, failing_keeps, sizes, sound_stands, sound_torn, taken_sound}
 
 values_last : {R : Type 0} (P : R → Type 0) (entries : List (Entry R)) → AllByRecursion P (values entries) → AllByRecursion P (values (last_alone entries))
 values_last P [] all = all
@@ -71,13 +73,17 @@ module _ {R : Type 0} (spelling : R → List ℕ) (reading : List ℕ → Option
       let place : bytes_of frame_bytes (before_newest rules.records) - rules.trimmed ≡ spelled_size (entry_frame spelling) (before_last store.journal.entries) = omega (arith, front) in
       let upper : bytes_of frame_bytes (before_newest rules.records) ≤ rules.synced = omega (arith, front, all, split, at_most, n.0, sized, synced) in
       let after = after_call frame_bytes rules TrimFront in
-      let now = call_stands spelling frame_bytes counts old.image rules TrimFront here (omega (arith, front), upper) in
+      let lower : rules.trimmed ≤ bytes_of frame_bytes (before_newest rules.records) = omega (arith, front) in
+      let now = call_stands spelling frame_bytes counts old.image rules TrimFront here (lower, upper) in
       let e : new.image ≡ trimmed_to (bytes_of frame_bytes (before_newest rules.records) - rules.trimmed) old.image = images told ∙ ap (λ (m : ℕ). trimmed_to m old.image) (sym place) in
       let stands : StandsFor spelling frame_bytes new.image after = rw e now in
       let sees : taken_as store.standing new.image ≡ new.image = taken_sound store.standing new.image (ap is_failing up) in
+      let there : IsTornBy spelling is_record frame_bytes (taken_as store.standing new.image) after =
+      subst (λ (i : Image). IsTornBy spelling is_record frame_bytes i after) (sym (sees ∙ e))
+      (call_torn spelling frame_bytes counts is_record old.image rules TrimFront here (lower, upper) (sound_torn spelling reading is_record frame_bytes counts again tells told old store rules trip k (ap is_failing up))) in
       let listed : journal.entries ≡ last_alone store.journal.entries = ap (λ j. j.entries) left in
       let entries : AllByRecursion is_record (values journal.entries) = rw listed (values_last is_record store.journal.entries k.are_records) in
-      built spelling reading is_record frame_bytes counts again tells told new journal store.standing store.trip after trip kept_on (rw sees stands) entries k.written upper k.trip k.armed (in_order store.standing up k.in_order)
+      built spelling reading is_record frame_bytes counts again tells told new journal store.standing store.trip after trip kept_on (rw sees stands) there entries k.written upper k.trip k.armed (in_order store.standing up k.in_order)
     where
       in_order : (standing : Standing) → standing ≡ Up → IsInOrder standing store.journal rules → IsInOrder standing journal (after_call frame_bytes rules TrimFront)
       in_order Up e o = ap (λ j. j.is_torn) left ∙ o
@@ -95,7 +101,8 @@ module _ {R : Type 0} (spelling : R → List ℕ) (reading : List ℕ → Option
       let all : old.image.synced ≡ length old.image.bytes = omega (arith, n.0, n.1, synced) in
       let bytes : new.image.bytes ≡ take (kept_bytes 0 old.image) old.image.bytes = ap (λ (x : Image). x.bytes) (images told) ∙ sym (take_all (kept_bytes 0 old.image) old.image.bytes (omega (arith, all))) in
       let entries : AllByRecursion is_record (values journal.entries) = rw same k.are_records in
-      (0, 0, failing_keeps spelling reading is_record frame_bytes counts again tells told new journal old.image rules 0 here k.front bytes k.written kept_on entries)
+      let there = sound_torn spelling reading is_record frame_bytes counts again tells told old store rules trip k (ap is_failing up) in
+      (0, 0, failing_keeps spelling reading is_record frame_bytes counts again tells told new journal old.image rules 0 here there k.front bytes k.written kept_on entries)
 
   -- how many bytes a trim needs to be synced
   pub all_synced_there : (seen : Seen) (store : Stored R) (rules : Disk R) (trip : Option Trip) → length seen.image.bytes ≡ seen.size → Keeps spelling is_record frame_bytes tells seen store rules trip → store.standing ≡ Up → rules.synced ≡ rules.length

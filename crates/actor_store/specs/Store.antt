@@ -8,6 +8,7 @@ use Rattle.journal_disk.specs.Disk.{Image, Seen, all_synced}
 use Rattle.frame_journal.specs.Journal.{Kept, IsKeptOn}
 use Rattle.frame_journal.specs.Records.{Entry, AreRecordsOf, as_written, entry_frame, spelled_size, values}
 use Rattle.journal_rules.specs.Stands.{StandsFor, record_frame, respelled}
+use Rattle.journal_rules.specs.Torn.{IsTornBy}
 use Rattle.actor_store.specs.declared.store.SetTrip.{SetTrip}
 use Rattle.actor_store.specs.declared.store.Standing.{Standing}
 use Rattle.actor_store.specs.declared.store.Standing.TheVariants.{Up, Down, Failing}
@@ -91,11 +92,13 @@ IsFirmFront spelling end (entry ∷ entries) image rules = IsOldFront spelling e
 abbrev pub entries_behind : {R : Type 0} → List (Entry R) → List R → List (Entry R)
 entries_behind old records = old ++ map as_written (drop (length old) records)
 
--- on this disk the store stands for the disk of the rules with this trip in force, where these entries were found: of what stands of them the
--- bytes are as they were found, and with their frames spelled as version 2 the bytes are those of the rules
+-- on this disk the store stands for the disk of the rules with this trip in force, where these entries were found: of what stands of them
+-- the bytes are as they were found, and with their frames spelled as version 2 the bytes are those of the rules. Behind the last whole frame
+-- stand the first bytes of the frame that a stop cut
 pub record KeepsBehind {R : Type 0} (spelling : R → List ℕ) (is_record : R → Type 0) (frame_bytes : R → ℕ) (tells : Bool) (seen : Seen) (store : Stored R) (old : Old R) (rules : Disk R) (in_force : Option Trip) : Type 0 where
   pub kept_on : IsKeptOn spelling tells seen store.journal
   pub stands : StandsFor spelling frame_bytes (respelled spelling (old_standing old rules) (taken_as store.standing seen.image)) rules
+  pub torn : IsTornBy spelling is_record frame_bytes (respelled spelling (old_standing old rules) (taken_as store.standing seen.image)) rules
   pub records : store.journal.entries ≡ entries_behind (old_standing old rules) (reverse (journal_of frame_bytes rules))
   pub are : values store.journal.entries ≡ reverse (journal_of frame_bytes rules)
   pub are_records : AllByRecursion is_record (values store.journal.entries)
@@ -130,6 +133,7 @@ IsFoundFront spelling frame_bytes end (entry ∷ entries) image rules = IsFoundF
 -- record of it is one of the format
 pub record IsFoundBehind {R : Type 0} (spelling : R → List ℕ) (is_record : R → Type 0) (frame_bytes : R → ℕ) (image : Image) (old : Old R) (rules : Disk R) : Type 0 where
   pub stands : StandsFor spelling frame_bytes (respelled spelling (old_standing old rules) image) rules
+  pub torn : IsTornBy spelling is_record frame_bytes (respelled spelling (old_standing old rules) image) rules
   pub written : AllByRecursion is_record rules.records
   pub front : IsFoundFront spelling frame_bytes old.end (old_standing old rules) image rules
   pub synced : rules.synced ≡ rules.length
@@ -153,14 +157,17 @@ SomeKeptBehind {R} K = (old : Old R) × SomeKept (K old)
 abbrev pub stopped_disk : {R : Type 0} → (R → ℕ) → ℕ → ℕ → Disk R → List (Call R) → Disk R
 stopped_disk frame_bytes n cut rules calls = after_calls frame_bytes rules (take n calls ++ Stops cut ∷ [])
 
--- the bytes on the disk are those of the rules, synced or not
-pub record HoldsBytes {R : Type 0} (spelling : R → List ℕ) (frame_bytes : R → ℕ) (image : Image) (rules : Disk R) : Type 0 where
+-- the bytes on the disk are those of the rules, synced or not: the frames that stand there, and behind them the first bytes of the one that
+-- a stop cut
+pub record HoldsBytes {R : Type 0} (spelling : R → List ℕ) (is_record : R → Type 0) (frame_bytes : R → ℕ) (image : Image) (rules : Disk R) : Type 0 where
   pub records : AreRecordsOf (record_frame spelling) image.bytes (reverse (journal_of frame_bytes rules))
   pub bytes : length image.bytes + rules.trimmed ≡ rules.length
+  pub torn : IsTornBy spelling is_record frame_bytes image rules
 
 -- the disk holds what some stop within these calls leaves
-abbrev pub SomeStop : {R : Type 0} → (R → List ℕ) → (R → ℕ) → Image → Disk R → List (Call R) → Type 0
-SomeStop spelling frame_bytes image rules calls = (n : ℕ) × (cut : ℕ) × HoldsBytes spelling frame_bytes image (stopped_disk frame_bytes n cut rules calls)
+abbrev pub SomeStop : {R : Type 0} → (R → List ℕ) → (R → Type 0) → (R → ℕ) → Image → Disk R → List (Call R) → Type 0
+SomeStop spelling is_record frame_bytes image rules calls =
+    (n : ℕ) × (cut : ℕ) × HoldsBytes spelling is_record frame_bytes image (stopped_disk frame_bytes n cut rules calls)
 
 -- a stop with this cut, which keeps so many records
 abbrev pub StopsWith : {R : Type 0} → (R → ℕ) → (Disk R → Option Trip → Type 0) → Disk R → ℕ → ℕ → Type 0

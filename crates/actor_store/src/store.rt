@@ -112,7 +112,8 @@ impl<R: Drop, F: Format<R>> Store<R, F> {
         };
     }
 
-    /// Stops the disk with this cut, and answers how many records are kept. The trip is disarmed.
+    /// Stops the disk with this cut, and answers how many records are kept. Behind their frames stand the first bytes of the frame that the
+    /// cut tore. The trip is disarmed.
     pub fn stop<D: Disk>(&mut self, disk: &mut D, cut: u64) -> u64
         requires told { IsTrue D.tells }
         requires kept { SomeKeptBehind (KeepsBehind F.spelling F.is_record F.frame_bytes D.tells (D.seen disk.old) (stored self.old)) }

@@ -1,5 +1,5 @@
 -- The start of a coordinator that is down: it comes through, or a trip stops it, or a disk call fails.
-use Rattle.std.proofs.Common.{◌≡◌, ℕ, zero, suc, ◌+◌, ◌≤◌, Bool, true, false, cond, not, None, Err, List, [], ◌∷◌, ◌++◌, length, min, take, refl, sym, ap, ap₂, subst, ◌∙◌, arith, inl, inr}
+use Rattle.std.proofs.Common.{◌≡◌, ℕ, zero, suc, ◌+◌, ◌≤◌, Bool, true, false, cond, not, Option, None, Err, List, [], ◌∷◌, ◌++◌, length, min, take, refl, sym, ap, ap₂, subst, ◌∙◌, arith, inl, inr}
 use Rattle.mdb_base.specs.declared.names.Tx.{Tx}
 use Rattle.mdb_base.specs.Words.{how_many, when}
 use Rattle.presumptions.specs.declared.Participant.{Participant}
@@ -7,14 +7,14 @@ use Rattle.fed_rules.specs.declared.answers.Answer.TheVariants as Say
 use Rattle.fed_rules.specs.declared.events.CoordEvent.TheVariants as Ev
 use Rattle.fed_rules.specs.declared.events.CoordStep.{CoordStep}
 use Rattle.fed_rules.specs.declared.records.CoordRecord.{CoordRecord}
-use Rattle.fed_rules.specs.Disk.{Call, CutBack, Disk, Stops, after_call, after_calls, bytes_of, is_torn, whole}
+use Rattle.fed_rules.specs.Disk.{Call, CutBack, Disk, Stops, after_call, after_calls, bytes_of, is_torn, oldest_lost, whole}
 use Rattle.fed_rules.specs.Happenings.{is_down, quiet, stops, used}
 use Rattle.fed_rules.specs.Coord.{coord_line, of_back, unless_tripped}
 use Rattle.fed_rules.specs.CoordPast.{CoordHappening, CoordPast, attempts_of}
 use Rattle.fed_rules.specs.CoordPast as Past
 use Rattle.fed_rules.specs.CoordRecords.{coord_frame, is_kept, recorded}
 use Rattle.fed_rules.specs.Policies.{Policy}
-use Rattle.rules_laws.proofs.Durable.{whole_all}
+use Rattle.rules_laws.proofs.Durable.{none_lost, whole_all}
 use Rattle.coord_laws.proofs.Past.{any_member, past_sound}
 use Rattle.journal_disk.specs.Disk.{Seen}
 use Rattle.actor_store.specs.declared.errors.StepErr.TheVariants as Err_is
@@ -72,8 +72,10 @@ back_goes protocols past calls cut = refl
 stop_same : (rules : Disk CoordRecord) (cut : ℕ) → rules.synced ≡ rules.length → bytes_of coord_frame rules.records ≤ rules.length → after_call coord_frame rules (Stops cut) ≡ rules
 stop_same rules cut synced within =
     let n : min rules.length (rules.synced + cut) ≡ rules.length = omega (arith, synced) in
-    ap (λ (m : ℕ). record { records = whole coord_frame m rules.records; length = m; synced = m; trimmed = rules.trimmed }) n
-    ∙ ap₂ (λ (rs : List CoordRecord) (m : ℕ). record { records = rs; length = rules.length; synced = m; trimmed = rules.trimmed }) (whole_all coord_frame rules.length rules.records within) (sym synced)
+    let lost = none_lost coord_frame rules.length rules.lost rules.records within in
+    ap (λ (m : ℕ). record { records = whole coord_frame m rules.records; length = m; synced = m; trimmed = rules.trimmed; lost = oldest_lost coord_frame m rules.lost rules.records }) n
+    ∙ ap₂ (λ (rs : List CoordRecord) (m : ℕ). record { records = rs; length = rules.length; synced = m; trimmed = rules.trimmed; lost = oldest_lost coord_frame rules.length rules.lost rules.records }) (whole_all coord_frame rules.length rules.records within) (sym synced)
+    ∙ ap (λ (o : Option CoordRecord). record { records = rules.records; length = rules.length; synced = rules.synced; trimmed = rules.trimmed; lost = o }) lost
 
 settled : (standing : Standing) (store : Store) (rules : Disk CoordRecord) → is_up standing ≡ false → IsInOrder standing store.journal rules → rules.synced ≡ rules.length
 settled Up store rules e o = cc

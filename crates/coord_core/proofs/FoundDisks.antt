@@ -1,5 +1,5 @@
 -- A journal whose frames stand on a disk, all of them synced, is found there; and so is the one that a core that stopped leaves.
-use Rattle.std.proofs.Common.{◌≡◌, ℕ, ◌+◌, ◌-◌, ◌<◌, ◌^◌, Bool, true, false, IsTrue, cond, not, List, [], ◌∷◌, ◌++◌, length, map, refl, sym, ap, ◌∙◌, arith}
+use Rattle.std.proofs.Common.{◌≡◌, ℕ, zero, suc, ◌+◌, ◌-◌, ◌<◌, ◌^◌, Bool, true, false, IsTrue, cond, not, List, [], ◌∷◌, ◌++◌, length, map, refl, sym, ap, ◌∙◌, arith}
 use Rattle.std.specs.List.{AllByRecursion}
 use Rattle.std.proofs.lemmas.List.{append-nil}
 use Rattle.mdb_base.specs.Words.{those}
@@ -17,7 +17,7 @@ use Rattle.fed_rules.specs.Found.{Journal}
 use Rattle.fed_rules.specs.Policies.{Policy}
 use Rattle.fed_rules.specs.Reopened.{commit_read, coord_reads_as, coord_sum_read, end_read, initiation_read, is_open_in, long_coord, oldest}
 use Rattle.fed_rules.specs.Usable.{IsUsableCoordinator}
-use Rattle.rules_laws.proofs.OpenedDisks.{expanded, opened_length, opened_records, opened_synced, opened_trimmed}
+use Rattle.rules_laws.proofs.OpenedDisks.{expanded, opened_length, opened_lost, opened_records, opened_synced, opened_trimmed, torn_lost}
 use Rattle.coord_laws.proofs.CoordOpened.{no_length, nothing_read, torn_short}
 use Rattle.journal_disk.specs.Disk.{Image, Seen}
 use Rattle.journal_disk.specs.Frames.{IsPayload}
@@ -91,6 +91,11 @@ oldest_is : (P : CoordRecord → Type 0) (newest : CoordRecord) (older : List Co
 oldest_is P first [] all = all.0
 oldest_is P newest (next ∷ older) all = oldest_is P next older all.1
 
+-- the record that a torn rest is taken for can't be written
+never_written : (torn : ℕ) → IsRecord (long_coord torn) → torn ≡ 0
+never_written zero is = refl
+never_written (suc n) is = let least = is.1.2.0.0.least in omega (arith, least)
+
 -- behind some entries the bytes stand for the disk that the journal stands for
 pub disk_found : (image : Image) (journal : Journal CoordRecord) → IsFoundIn spelling IsRecord image journal → (old : Old CoordRecord) × IsFoundBehind spelling IsRecord coord_frame image old (found_disk journal)
 disk_found image journal f = by_records journal.records journal.torn f
@@ -101,6 +106,7 @@ disk_found image journal f = by_records journal.records journal.torn f
         let none : Journal CoordRecord = record { records = []; torn = torn } in
         let short = torn_short torn in
         found_in spelling IsRecord coord_frame frame_has_size image none (found_disk none) [] g tt tt (nothing_read torn) refl (omega (arith, short, ap (bytes_of coord_frame) (nothing_read torn))) refl
+        (long_coord torn) (torn_lost coord_frame empty_disk (long_coord torn) torn short no_length) (never_written torn)
     by_records (newest ∷ older) torn g =
         let those : Journal CoordRecord = record { records = newest ∷ older; torn = torn } in
         let rules = found_disk those in
@@ -115,7 +121,9 @@ disk_found image journal f = by_records journal.records journal.torn f
         let same : bytes_of coord_frame (expanded coord_reads_as newest older ++ []) ≡ bytes_of coord_frame rules.records =
         ap (bytes_of coord_frame) (append-nil (expanded coord_reads_as newest older) ∙ split newest older ∙ sym parts) in
         let synced : rules.synced ≡ rules.length = opened_synced coord_frame coord_reads_as newest older (long_coord torn) torn empty_disk in
+        let lost = opened_lost coord_frame coord_reads_as newest older (long_coord torn) torn empty_disk (torn_short torn) no_length in
         found_in spelling IsRecord coord_frame frame_has_size image those rules under g (all_records under fits) (all_payloads under fits) parts border (long ∙ ap (λ (n : ℕ). n + torn) same) synced
+        (long_coord torn) lost (never_written torn)
 
 -- what a core that stopped has on its disk is found there again, where it is usable
 pub left_found : {P : Type 0} (test : P → Policy) (tells : Bool) (core : CoordCore P) (seen : Seen) (terms : Terms) (past : CoordPast) → IsTrue tells → Stands test tells core seen terms past

@@ -73,7 +73,8 @@ impl<P: TakePolicy> CoordCore<P> {
     }
 
     /// Answers the next event. Without memory neither the core nor the disk changes. Where a disk call fails, which comes only where the
-    /// disk's count of faults rose, the coordinator is down, as after a stop before or within the event, and may be started again.
+    /// disk's count of faults rose, the coordinator is down, as after a stop before or within the event: behind the whole frames stand the
+    /// first bytes of the frame that it tore. It may be started again.
     pub fn step<D: Disk>(
         &mut self,
         alloc: Global,

@@ -1,5 +1,5 @@
 -- A site stops right after the append of a Checkpoint, which is torn: the records before it stand.
-use Rattle.std.proofs.Common.{◌≡◌, List, [], ◌∷◌, reverse, refl}
+use Rattle.std.proofs.Common.{◌≡◌, Some, List, [], ◌∷◌, reverse, refl}
 use Rattle.std.specs.Prelude.{length}
 use Rattle.mdb_base.specs.declared.names.Engine.TheVariants.{Locking}
 use Rattle.presumptions.specs.declared.Protocol.TheVariants as By
@@ -9,6 +9,7 @@ use Rattle.fed_rules.specs.declared.scenario.Scenario.{Scenario}
 use Rattle.fed_rules.specs.Disk.{held_bytes}
 use Rattle.fed_rules.specs.Orders.{orders}
 use Rattle.fed_rules.specs.Right.{story_told}
+use Rattle.fed_rules.specs.Site.{checkpoint}
 use Rattle.fed_rules.specs.SitePast.{disk, journal}
 use Rattle.fed_rules.specs.SiteRecords.{Home}
 use Rattle.fed_rules.specs.Story.{Story, lines_of, past_of}
@@ -58,3 +59,8 @@ bytes = refl
 standing : length (journal home (past_of (at 1) story)) ≡ 3
 unfolding opened
 standing = refl
+
+-- what stands behind them are the first bytes of the Checkpoint
+lost : (disk home (past_of (at 1) story)).lost ≡ Some (checkpoint home (past_of (at 1) story))
+unfolding opened
+lost = refl

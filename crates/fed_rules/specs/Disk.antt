@@ -1,7 +1,7 @@
 -- A disk that may stop after any call, and may be trimmed at its front. It is seen as its records, the newest first, with the length of
 -- their frames. Places count all bytes that were ever written and not lost, those that were trimmed included, as numbers of a log do.
 -- What a stop keeps is a prefix of the bytes that holds at least the synced ones (this project's profile).
-use Rattle.std.specs.Prelude.{ℕ, ◌+◌, ◌-◌, min, nat_le, nat_lt, cond, Bool, List, [], ◌∷◌}
+use Rattle.std.specs.Prelude.{ℕ, ◌+◌, ◌-◌, min, nat_le, nat_lt, cond, Bool, Option, Some, None, List, [], ◌∷◌}
 
 -- one call on the disk of an actor
 pub data Call (Record : Type 0) : Type 0 where
@@ -16,6 +16,7 @@ pub record Disk (Record : Type 0) : Type 0 where
   pub length : ℕ  -- the place behind the last byte
   pub synced : ℕ  -- so much survives every stop
   pub trimmed : ℕ  -- the place of the first byte that stands
+  pub lost : Option Record  -- the oldest one that the last stop to lose any took away: its frame's first bytes may stand behind the whole ones
 
 -- the bytes of these records' frames
 abbrev pub bytes_of : {Record : Type 0} → (Record → ℕ) → List Record → ℕ
@@ -47,19 +48,33 @@ journal size disk = standing size disk.trimmed disk.records
 abbrev pub held_bytes : {Record : Type 0} → Disk Record → ℕ
 held_bytes disk = disk.length - disk.trimmed
 
+-- the oldest of the records whose frame doesn't lie whole within so many bytes; where each does, the one that was lost before
+abbrev pub oldest_lost : {Record : Type 0} → (Record → ℕ) → ℕ → Option Record → List Record → Option Record
+oldest_lost size bytes before [] = before
+oldest_lost size bytes before (newest ∷ records) =
+    cond (nat_le (bytes_of size (newest ∷ records)) bytes) before (oldest_lost size bytes (Some newest) records)
+
 -- what is left of a disk of which all before this place is kept, and synced
 abbrev pub kept_of : {Record : Type 0} → (Record → ℕ) → ℕ → Disk Record → Disk Record
-kept_of size place disk = record { records = whole size place disk.records; length = place; synced = place; trimmed = disk.trimmed }
+kept_of size place disk =
+    record {
+      records = whole size place disk.records;
+      length = place;
+      synced = place;
+      trimmed = disk.trimmed;
+      lost = oldest_lost size place disk.lost disk.records;
+    }
 
 -- a disk after a call
 abbrev pub after_call : {Record : Type 0} → (Record → ℕ) → Disk Record → Call Record → Disk Record
 after_call size disk (Append newest) =
-    record { records = newest ∷ disk.records; length = disk.length + size newest; synced = disk.synced; trimmed = disk.trimmed }
-after_call size disk Sync = record { records = disk.records; length = disk.length; synced = disk.length; trimmed = disk.trimmed }
+    record { records = newest ∷ disk.records; length = disk.length + size newest; synced = disk.synced; trimmed = disk.trimmed; lost = disk.lost }
+after_call size disk Sync =
+    record { records = disk.records; length = disk.length; synced = disk.length; trimmed = disk.trimmed; lost = disk.lost }
 after_call size disk CutBack =
-    record { records = disk.records; length = bytes_of size disk.records; synced = bytes_of size disk.records; trimmed = disk.trimmed }
+    record { records = disk.records; length = bytes_of size disk.records; synced = bytes_of size disk.records; trimmed = disk.trimmed; lost = disk.lost }
 after_call size disk TrimFront =
-    record { records = disk.records; length = disk.length; synced = disk.synced; trimmed = bytes_of size (before_last disk.records) }
+    record { records = disk.records; length = disk.length; synced = disk.synced; trimmed = bytes_of size (before_last disk.records); lost = disk.lost }
 after_call size disk (Stops cut) = kept_of size (min disk.length (disk.synced + cut)) disk
 
 -- a disk after these calls, the first one first
@@ -69,7 +84,7 @@ after_calls size disk (call ∷ calls) = after_calls size (after_call size disk 
 
 -- a disk on which nothing was written
 abbrev pub empty_disk : {Record : Type 0} → Disk Record
-empty_disk = record { records = []; length = 0; synced = 0; trimmed = 0 }
+empty_disk = record { records = []; length = 0; synced = 0; trimmed = 0; lost = None }
 
 -- whether bytes stand behind the last whole frame
 abbrev pub is_torn : {Record : Type 0} → (Record → ℕ) → Disk Record → Bool

@@ -83,7 +83,7 @@ module _ {R : Type 0} (spelling : R → List ℕ) (size : R → ℕ) (counts : C
   same_image : {a b : List ℕ} {m n : ℕ} → a ≡ b → m ≡ n → (let i : Image = record { bytes = a; synced = m } in i) ≡ (let i : Image = record { bytes = b; synced = n } in i)
   same_image e f = cc
 
-  take_behind : (front bytes : List ℕ) (n : ℕ) → length front ≤ n → take n (front ++ bytes) ≡ front ++ take (n - length front) bytes
+  pub take_behind : (front bytes : List ℕ) (n : ℕ) → length front ≤ n → take n (front ++ bytes) ≡ front ++ take (n - length front) bytes
   take_behind front bytes n le =
       ap (λ k. take k (front ++ bytes)) (let e : n ≡ length front + (n - length front) = omega (arith, le) in e) ∙ take-append-add front bytes (n - length front)
 

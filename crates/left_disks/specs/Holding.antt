@@ -16,10 +16,10 @@ use Rattle.actor_store.specs.Store as actor
 use Rattle.coord_journal.specs.Spelling as of_coordinator
 use Rattle.site_journal.specs.Spelling as of_site
 
--- the frames of the records that stand on this disk of the rules, synced or not, and where a stop tore the last one its rest behind them; each record is
--- one of the format
+-- the frames of the records that stand on this disk of the rules, synced or not, and where a stop tore one the first bytes of it behind
+-- them; each record is one of the format
 pub record HoldsRecords {R : Type 0} (spelling : R → List ℕ) (is_record : R → Type 0) (frame_bytes : R → ℕ) (image : Image) (rules : Disk R) : Type 0 where
-  pub bytes : actor.HoldsBytes spelling frame_bytes image rules
+  pub bytes : actor.HoldsBytes spelling is_record frame_bytes image rules
   pub format : AllByRecursion is_record (journal frame_bytes rules)
 
 -- on the coordinator's

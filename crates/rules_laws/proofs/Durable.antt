@@ -1,8 +1,8 @@
 -- What is synced stays through every call and every stop, and a stop takes only loose records away.
-use Rattle.std.proofs.Common.{◌≡◌, ℕ, ◌+◌, ◌≤◌, ◌⊎◌, inl, inr, min, Bool, true, false, cond, nat_le, List, [], ◌∷◌, refl, sym, ap, subst, arith}
+use Rattle.std.proofs.Common.{◌≡◌, ℕ, ◌+◌, ◌≤◌, ◌⊎◌, inl, inr, min, Bool, true, false, cond, nat_le, Option, Some, List, [], ◌∷◌, refl, sym, ap, subst, arith}
 use Rattle.std.proofs.lemmas.Bool.{leb-true, le-leb}
 use Rattle.order_laws.specs.Chains.{In}
-use Rattle.fed_rules.specs.Disk.{Disk, Call, Append, Sync, CutBack, TrimFront, Stops, bytes_of, whole, after_call, after_calls}
+use Rattle.fed_rules.specs.Disk.{Disk, Call, Append, Sync, CutBack, TrimFront, Stops, bytes_of, oldest_lost, whole, after_call, after_calls}
 use Rattle.rules_laws.specs.Durable.{IsSafe, IsSound, LooseFirst, IsFirm, IsFrontOf}
 
 -- the frames of those that are whole within so many bytes take no more
@@ -17,6 +17,11 @@ bytes_whole size b (r ∷ rs) = by_test (nat_le (bytes_of size (r ∷ rs)) b) re
 pub whole_all : {R : Type 0} (size : R → ℕ) (b : ℕ) (rs : List R) → bytes_of size rs ≤ b → whole size b rs ≡ rs
 whole_all size b [] h = refl
 whole_all size b (r ∷ rs) h = ap (λ t. cond t (r ∷ rs) (whole size b rs)) (le-leb _ _ h)
+
+-- and then none is lost
+pub none_lost : {R : Type 0} (size : R → ℕ) (b : ℕ) (before : Option R) (rs : List R) → bytes_of size rs ≤ b → oldest_lost size b before rs ≡ before
+none_lost size b before [] h = refl
+none_lost size b before (r ∷ rs) h = ap (λ t. cond t before (oldest_lost size b (Some r) rs)) (le-leb _ _ h)
 
 -- those that are whole are some of them
 pub whole_some : {R : Type 0} (size : R → ℕ) (b : ℕ) (rs : List R) (r : R) → In r (whole size b rs) → In r rs

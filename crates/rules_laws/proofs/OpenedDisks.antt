@@ -1,10 +1,10 @@
 -- What the made-up past of an actor on whose disk a journal is found leaves on the disk: the journal, with what its first record is read as trimmed
 -- before it, and the torn rest.
-use Rattle.std.proofs.Common.{◌≡◌, ℕ, ◌+◌, ◌≤◌, ◌<◌, min, Bool, true, false, cond, nat_le, List, [], ◌∷◌, ◌++◌, refl, sym, ap, subst, ◌∙◌, arith, le-leb}
+use Rattle.std.proofs.Common.{◌≡◌, ℕ, ◌+◌, ◌≤◌, ◌<◌, min, Bool, true, false, cond, nat_le, Some, List, [], ◌∷◌, ◌++◌, refl, sym, ap, subst, ◌∙◌, arith, le-leb}
 use Rattle.std.proofs.lemmas.Bool.{lt-leb}
-use Rattle.fed_rules.specs.Disk.{Disk, Call, Append, Sync, CutBack, TrimFront, Stops, bytes_of, whole, standing, journal, after_call, after_calls}
+use Rattle.fed_rules.specs.Disk.{Disk, Call, Append, Sync, CutBack, TrimFront, Stops, bytes_of, oldest_lost, whole, standing, journal, after_call, after_calls}
 use Rattle.fed_rules.specs.Reopened.{appends, oldest, rewritten, torn_off, written}
-use Rattle.rules_laws.proofs.Durable.{whole_all}
+use Rattle.rules_laws.proofs.Durable.{none_lost, whole_all}
 use Rattle.std.proofs.lemmas.List.{append_assoc}
 
 -- the records of a journal, with what the first one is read as behind it
@@ -68,6 +68,16 @@ module _ {R : Type 0} (size : R → ℕ) where
       place : ℕ
       place = min (d.length + size long) (d.length + torn)
 
+  -- that frame is the one that is lost
+  pub torn_lost : (d : Disk R) (long : R) (torn : ℕ) → torn < size long → d.length ≡ bytes_of size d.records
+      → (after_calls size d (torn_off long torn)).lost ≡ Some long
+  torn_lost d long torn short e =
+      ap (λ b. cond b d.lost (oldest_lost size place (Some long) d.records)) (lt-leb (size long + bytes_of size d.records) place (omega (arith, short, e)))
+      ∙ none_lost size place (Some long) d.records (omega (arith, short, e))
+    where
+      place : ℕ
+      place = min (d.length + size long) (d.length + torn)
+
   torn_length : (d : Disk R) (long : R) (torn : ℕ) → torn < size long → (after_calls size d (torn_off long torn)).length ≡ d.length + torn
   torn_length d long torn short = omega (arith, short)
 
@@ -127,6 +137,12 @@ module _ {R : Type 0} (size : R → ℕ) where
   opened_synced read_as newest older long torn d =
       ap (λ (k : Disk R). k.synced) (written_is read_as newest older d (torn_off long torn))
       ∙ sym (ap (λ (k : Disk R). k.length) (written_is read_as newest older d (torn_off long torn)))
+
+  pub opened_lost : (read_as : R → List R) (newest : R) (older : List R) (long : R) (torn : ℕ) (d : Disk R) → torn < size long → d.length ≡ bytes_of size d.records
+      → (after_calls size d (rewritten read_as (newest ∷ older) ++ torn_off long torn)).lost ≡ Some long
+  opened_lost read_as newest older long torn d short e =
+      ap (λ (k : Disk R). k.lost) (written_is read_as newest older d (torn_off long torn))
+      ∙ torn_lost (held size read_as newest older d) long torn short (held_length read_as newest older d e)
 
 -- the torn rest is a frame that a stop cuts
 pub calls_split : {R : Type 0} (size : R → ℕ) (d : Disk R) (cs : List (Call R)) (long : R) (torn : ℕ)

@@ -14,7 +14,7 @@ use Rattle.journal_rules.specs.Stands.{CountsFrames, record_frame}
 use Rattle.journal_rules.proofs.Journals.{all_standing}
 use Rattle.journal_rules.proofs.Keeps.{journal_stands}
 use Rattle.actor_store.specs.Store.{HoldsBytes, Keeps, Stored, is_up, taken_as}
-use Rattle.actor_store.proofs.StoreLaws.{sizes, taken_bytes}
+use Rattle.actor_store.proofs.StoreLaws.{sizes, taken_bytes, torn_bytes}
 use Rattle.coord_journal.specs.Exact as coord_exact
 use Rattle.coord_journal.specs.Frames as coord_frames
 use Rattle.coord_journal.specs.Spelling as of_coordinator
@@ -36,6 +36,7 @@ module _ {R : Type 0} (spelling : R → List ℕ) (reading : List ℕ → Option
           records = subst (λ (bytes : List ℕ). AreRecordsOf (record_frame spelling) bytes (reverse (journal frame_bytes rules))) same
               (journal_stands spelling frame_bytes counts (taken_as store.standing seen.image) rules k.stands);
           bytes = omega (arith, all.0, ap length same);
+          torn = torn_bytes spelling reading is_record frame_bytes counts again store.standing seen.image rules k.torn;
         };
         format = all_standing is_record frame_bytes rules.trimmed rules.records k.written;
       }
@@ -75,9 +76,10 @@ pub site_whole : (tells : Bool) (seen : Seen) (store : Stored SiteRecord) (rules
 site_whole = holds_frames of_site.spelling of_site.reading of_site.IsRecord site_frame site_frames.frame_has_size site_exact.spelled_is_read
 
 -- a disk without bytes holds what the rules say where nothing was written
-pub none_holds : (image : Image) → image.bytes ≡ [] → HoldsBytes of_coordinator.spelling coord_frame image empty_disk
+pub none_holds : (image : Image) → image.bytes ≡ [] → HoldsBytes of_coordinator.spelling of_coordinator.IsRecord coord_frame image empty_disk
 none_holds image e = record {
   records = subst (λ (bytes : List ℕ). AreRecordsOf (record_frame of_coordinator.spelling) bytes []) (sym e)
       (record { right = record { are_frames = tt; are_right = tt }; rest = []; parts = refl; is_torn = none_is_part });
   bytes = omega (arith, ap length e);
+  torn = e;
 }

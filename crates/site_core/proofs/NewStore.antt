@@ -20,7 +20,7 @@ use Rattle.actor_store.specs.declared.store.Standing.TheVariants.{Up}
 use Rattle.actor_store.specs.Store as actor
 use Rattle.actor_store.specs.Store.{HoldsBytes, taken_as}
 use Rattle.actor_store.proofs.FromLaws.{all_written, from_none}
-use Rattle.actor_store.proofs.StoreLaws.{sizes, taken_bytes}
+use Rattle.actor_store.proofs.StoreLaws.{sizes, taken_bytes, torn_bytes}
 use Rattle.site_core.specs.Store.{Store, Keeps, SomeStop, Ends, stopped_disk}
 
 -- the empty disk of the rules, beside one that holds no byte
@@ -54,6 +54,7 @@ keeps_new tells seen store empty told sound is =
     record {
       kept_on = new_is_kept spelling tells seen empty (λ t. none);
       stands = nothing_stands seen.image none (omega (arith, sound, told, empty));
+      torn = none;
       records = refl;
       are = refl;
       are_records = tt;
@@ -74,12 +75,13 @@ stops_at_once seen calls empty told =
       record {
         records = subst (λ (bytes : List ℕ). AreRecordsOf (record_frame spelling) bytes []) (sym none) no_records;
         bytes = omega (arith, told, empty);
+        torn = none;
       },
     )
 
 -- a store's disk holds the bytes of the rules, synced or not
 pub keeps_bytes : (tells : Bool) (seen : Seen) (store : Store) (rules : Disk SiteRecord) (trip : Option Trip) → Keeps false tells seen store rules trip
-    → HoldsBytes spelling site_frame seen.image rules
+    → HoldsBytes spelling IsRecord site_frame seen.image rules
 keeps_bytes tells seen store rules trip from =
     let k = all_written refl from in
     let same = taken_bytes store.standing seen.image in
@@ -88,6 +90,7 @@ keeps_bytes tells seen store rules trip from =
       records = subst (λ (bytes : List ℕ). AreRecordsOf (record_frame spelling) bytes (reverse (journal site_frame rules))) same
           (journal_stands spelling site_frame frame_has_size (taken_as store.standing seen.image) rules k.stands);
       bytes = omega (arith, all.0, ap length same);
+      torn = torn_bytes spelling reading IsRecord site_frame frame_has_size spelled_is_read store.standing seen.image rules k.torn;
     }
 
 -- where no trip is set, calls of which one failed leave what some stop within them leaves

@@ -1,12 +1,12 @@
 -- The disk of the past that a journal stands for: its records stand behind those that the first one is read as, which are trimmed, and all is synced.
-use Rattle.std.proofs.Common.{◌≡◌, ℕ, ◌+◌, List, [], ◌∷◌, ◌++◌, refl, sym, ap, ◌∙◌, arith}
+use Rattle.std.proofs.Common.{◌≡◌, ℕ, ◌+◌, Some, List, [], ◌∷◌, ◌++◌, refl, sym, ap, ◌∙◌, arith}
 use Rattle.std.proofs.lemmas.List.{append_assoc}
 use Rattle.fed_rules.specs.declared.records.SiteRecord.{SiteRecord}
 use Rattle.fed_rules.specs.Disk.{Disk, bytes_of}
 use Rattle.fed_rules.specs.Reopened.{long_site, oldest, opened_site, site_reads_as}
 use Rattle.fed_rules.specs.SitePast.{disk}
 use Rattle.fed_rules.specs.SiteRecords.{Home, site_frame}
-use Rattle.rules_laws.proofs.OpenedDisks.{expanded, opened_length, opened_synced, opened_trimmed}
+use Rattle.rules_laws.proofs.OpenedDisks.{expanded, opened_length, opened_lost, opened_synced, opened_trimmed}
 use Rattle.site_history.proofs.OpenedPasts.{opened_is}
 use Rattle.site_history.proofs.OpenedSites.{disk_is, torn_short}
 use Rattle.site_history.proofs.ReadSums.{foundation}
@@ -25,6 +25,7 @@ pub record StandsBehind (home : Home) (newest : SiteRecord) (older : List SiteRe
   pub border : rules.trimmed ≡ bytes_of site_frame (trimmed_off home newest older)
   pub long : rules.length ≡ bytes_of site_frame rules.records + torn
   pub synced : rules.synced ≡ rules.length
+  pub lost : rules.lost ≡ Some (long_site torn)
 
 pub stands_behind : (home : Home) (newest : SiteRecord) (older : List SiteRecord) (torn : ℕ)
     → StandsBehind home newest older torn (disk home (opened_site (record { records = newest ∷ older; torn = torn })))
@@ -41,4 +42,5 @@ stands_behind home newest older torn =
       long = ap (λ (d : Disk SiteRecord). d.length) is ∙ opened_length site_frame site_reads_as newest older (long_site torn) torn first (torn_short torn) base
           ∙ sym (ap (λ rs. bytes_of site_frame rs + torn) all);
       synced = ap (λ (d : Disk SiteRecord). d.synced) is ∙ opened_synced site_frame site_reads_as newest older (long_site torn) torn first ∙ sym (ap (λ (d : Disk SiteRecord). d.length) is);
+      lost = ap (λ (d : Disk SiteRecord). d.lost) is ∙ opened_lost site_frame site_reads_as newest older (long_site torn) torn first (torn_short torn) base;
     }

@@ -155,6 +155,10 @@ short_first image newest older torn f =
     subst (λ (rs : List SiteRecord). AllByRecursion IsFrame (map (record_frame spelling) rs)) f.are those.right.are_frames in
     oldest_is (λ (r : SiteRecord). site_payload r < 2 ^ 16) newest older (all_turned (λ (r : SiteRecord). site_payload r < 2 ^ 16) (newest ∷ older) (all_frames (reverse (newest ∷ older)) frames))
 
+-- the record that a torn rest is taken for can't be written
+never_written : (torn : ℕ) → IsRecord (long_site torn) → torn ≡ 0
+never_written torn is = let least = is.0.least in omega (arith, least)
+
 -- behind some entries the bytes stand for the disk of the past that the journal stands for
 pub opened_found : (image : Image) (home : Home) (journal : Journal SiteRecord) → IsFoundOn image home journal
     → (old : Old SiteRecord) × IsFoundBehind spelling IsRecord site_frame image old (Past.disk home (opened_site journal))
@@ -171,6 +175,7 @@ opened_found image home journal f = by_records journal.records journal.torn f
         let s = stands_behind home newest older torn in
         found_in spelling IsRecord site_frame frame_has_size image (record { records = newest ∷ older; torn = torn }) (Past.disk home (opened_site (record { records = newest ∷ older; torn = torn })))
         (trimmed_off home newest older) g.stands (all_records (trimmed_off home newest older) fits) (all_payloads (trimmed_off home newest older) fits) s.parts s.border s.long s.synced
+        (long_site torn) s.lost (never_written torn)
 
 -- a store that keeps that disk behind them keeps it of that past
 pub found_kept : {tells : Bool} {seen : Seen} {rules : Disk SiteRecord} {trip : Option Trip} (store : Store) (journal : Journal SiteRecord) (old : Old SiteRecord) → KeepsBehind tells seen store old rules trip

@@ -11,7 +11,7 @@ use Rattle.fed_rules.specs.declared.events.SiteEvent.{SiteEvent}
 use Rattle.fed_rules.specs.declared.events.SiteEvent.TheVariants as Ev
 use Rattle.fed_rules.specs.declared.events.SiteStep.{SiteStep}
 use Rattle.fed_rules.specs.declared.records.SiteRecord.{SiteRecord}
-use Rattle.fed_rules.specs.Disk.{Call, Stops, Disk, after_call, after_calls, bytes_of, whole}
+use Rattle.fed_rules.specs.Disk.{Call, Stops, Disk, after_call, after_calls, bytes_of, oldest_lost, whole}
 use Rattle.fed_rules.specs.Happenings.{comes_up, is_down, quiet, set, stopped, stops}
 use Rattle.fed_rules.specs.Runs as Lines
 use Rattle.fed_rules.specs.Runs.{EngineLine}
@@ -37,6 +37,7 @@ use Rattle.site_core.specs.Store.{Ends, Keeps, Store}
 use Rattle.site_core.proofs.NotesLaws.{notes_same}
 use Rattle.site_core.proofs.OnceLaws.{AppendsOnce, once_stopped}
 use Rattle.site_core.proofs.UpLaws.{closed_same}
+use Rattle.rules_laws.proofs.Durable.{none_lost}
 use Rattle.site_history.proofs.Founded.{whole-all}
 use Rattle.actor_store.proofs.TripLaws.{trip_to-rules, trip_to-armed}
 use Rattle.site_core.proofs.RememberLaws.{answers_as, carries_stop, down_is, kept_records, kind_at, stop_line, trips_is, up_is}
@@ -113,8 +114,10 @@ first_calls (suc n) (call ∷ calls) = inr (from (first_calls n calls)) where
 pub stop_same : (rules : Disk SiteRecord) (cut : ℕ) → rules.synced ≡ rules.length → bytes_of site_frame rules.records ≤ rules.length → after_call site_frame rules (Stops cut) ≡ rules
 stop_same rules cut synced within =
     let n : min rules.length (rules.synced + cut) ≡ rules.length = omega (arith, synced) in
-    ap (λ (m : ℕ). record { records = whole site_frame m rules.records; length = m; synced = m; trimmed = rules.trimmed }) n
-    ∙ ap₂ (λ (rs : List SiteRecord) (m : ℕ). record { records = rs; length = rules.length; synced = m; trimmed = rules.trimmed }) (whole-all rules.length rules.records within) (sym synced)
+    let lost = none_lost site_frame rules.length rules.lost rules.records within in
+    ap (λ (m : ℕ). record { records = whole site_frame m rules.records; length = m; synced = m; trimmed = rules.trimmed; lost = oldest_lost site_frame m rules.lost rules.records }) n
+    ∙ ap₂ (λ (rs : List SiteRecord) (m : ℕ). record { records = rs; length = rules.length; synced = m; trimmed = rules.trimmed; lost = oldest_lost site_frame rules.length rules.lost rules.records }) (whole-all rules.length rules.records within) (sym synced)
+    ∙ ap (λ (o : Option SiteRecord). record { records = rules.records; length = rules.length; synced = rules.synced; trimmed = rules.trimmed; lost = o }) lost
 
 module _ {E : Type 0} (stands : E → Lines.Start → List EngineLine → Type 0) (tells : Bool) where
   -- a past that is another one by the rules

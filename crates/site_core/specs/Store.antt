@@ -26,7 +26,7 @@ abbrev pub stopped_disk : ℕ → ℕ → Disk SiteRecord → List (Call SiteRec
 stopped_disk n cut rules calls = actor.stopped_disk site_frame n cut rules calls
 
 abbrev pub SomeStop : Image → Disk SiteRecord → List (Call SiteRecord) → Type 0
-SomeStop image rules calls = actor.SomeStop spelling site_frame image rules calls
+SomeStop image rules calls = actor.SomeStop spelling IsRecord site_frame image rules calls
 
 abbrev pub Ends : {A : Type 0} → (Disk SiteRecord → Option Trip → Type 0) → Disk SiteRecord → Option Trip → List (Call SiteRecord) → Result A Break → Type 0
 Ends K rules trip calls r = actor.Ends site_frame K rules trip calls r

@@ -123,7 +123,8 @@ impl<E: LocalEngine> SiteCore<E> {
     }
 
     /// Answers the next event. Without memory neither the core nor the disk changes. Where a disk call fails, which comes only where
-    /// the disk's count of faults rose, the site is down, as after a stop within the disk calls of the event.
+    /// the disk's count of faults rose, the site is down, as after a stop within the disk calls of the event: behind the whole frames stand
+    /// the first bytes of the frame that it tore.
     pub fn step<D: Disk>(
         &mut self,
         alloc: Global,
