@@ -1,5 +1,5 @@
 -- What a world comes to whose session began with empty disks: the session is told by its scenario.
-use Rattle.std.specs.Prelude.{ℕ, ◌<◌, ◌^◌, Bool, List, length}
+use Rattle.std.specs.Prelude.{ℕ, ◌<◌, ◌^◌, Bool, List, length, map}
 use Rattle.fed_rules.specs.declared.commands.Command.{Command}
 use Rattle.fed_rules.specs.declared.scenario.Scenario.{Scenario}
 use Rattle.fed_rules.specs.Sessions.{fresh}
@@ -7,7 +7,7 @@ use Rattle.journal_disk.specs.Disk.{Seen}
 use Rattle.fed_world.specs.declared.errors.WorldErr.{WorldErr}
 use Rattle.fed_world.specs.declared.world.World.{World}
 use Rattle.fed_world.specs.FreshWorlds.{Stands}
-use Rattle.fed_world.specs.Worlds.{EachStory}
+use Rattle.fed_world.specs.Worlds.{EachWhere}
 use Rattle.closing.specs.Steps as Steps
 use Rattle.closing.specs.Towards as Towards
 use Rattle.closing.specs.Towards.{Fits}
@@ -36,12 +36,20 @@ BreaksAt seen number tells old world disks whole scenario commands = Towards.Bre
 abbrev pub FailsToward : {D : Type 0} → (D → Seen) → Bool → WorldErr → List Seen → World → List Seen → List Command → Scenario → List Command → Type 0
 FailsToward seen tells why old world disks whole scenario commands = Towards.FailsToward seen tells why old world disks whole (fresh scenario) commands
 
--- behind this the world, with its disks, has all these commands behind it
-abbrev pub Reaches : Bool → World → List Seen → World → List Seen → (Scenario → List Command → Type 0) → (Scenario → List Command → List Command) → Type 0
-Reaches tells old before new after Can whole =
-    EachStory (Stands tells old before) (λ scenario commands. Can scenario commands → Stands tells new after scenario (whole scenario commands))
+-- what comes of a call, from an old world with these disks to a new one with those
+module _ {D : Type 0} (seen : D → Seen) (tells : Bool) (old : World) (before : List D) (new : World) (after : List D) where
+  -- behind commands for which the old world stood, where this may come, the new one has all these commands behind it
+  abbrev pub ReachesWhere : (Scenario → List Command → Type 0) → (Scenario → List Command → List Command) → Type 0
+  ReachesWhere Can whole = EachWhere (Stands tells old (map seen before)) Can (λ scenario commands. Stands tells new (map seen after) scenario (whole scenario commands))
 
--- it fails on the way to them
-abbrev pub FallsShort : {D : Type 0} → (D → Seen) → Bool → World → List Seen → WorldErr → World → List Seen → (Scenario → List Command → Type 0) → (Scenario → List Command → List Command) → Type 0
-FallsShort seen tells old before why new after Can whole =
-    EachStory (Stands tells old before) (λ scenario commands. Can scenario commands → FailsToward seen tells why before new after (whole scenario commands) scenario commands)
+  -- or it fails on the way to them, for this reason
+  abbrev pub FallsShortWhere : (Scenario → List Command → Type 0) → (Scenario → List Command → List Command) → WorldErr → Type 0
+  FallsShortWhere Can whole why =
+      EachWhere (Stands tells old (map seen before)) Can (λ scenario commands. FailsToward seen tells why (map seen before) new (map seen after) (whole scenario commands) scenario commands)
+
+  -- so it is where the numbers of all these commands fit
+  abbrev pub Reaches : (Scenario → List Command → List Command) → Type 0
+  Reaches whole = ReachesWhere (WillFit whole) whole
+
+  abbrev pub FallsShort : (Scenario → List Command → List Command) → WorldErr → Type 0
+  FallsShort whole why = FallsShortWhere (WillFit whole) whole why

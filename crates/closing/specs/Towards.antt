@@ -1,5 +1,5 @@
 -- What a world comes to that carries out some commands, or only the first of them.
-use Rattle.std.specs.Prelude.{ℕ, ◌≡◌, ◌≤◌, ◌+◌, ◌^◌, Bool, List, ◌∷◌, ◌++◌, length}
+use Rattle.std.specs.Prelude.{ℕ, ◌≡◌, ◌≤◌, ◌+◌, ◌^◌, Bool, List, ◌∷◌, ◌++◌, length, map}
 use Rattle.fed_rules.specs.declared.commands.Command.{Command}
 use Rattle.fed_rules.specs.Sessions.{Session}
 use Rattle.journal_disk.specs.Disk.{Seen}
@@ -8,7 +8,7 @@ use Rattle.fed_world.specs.declared.errors.WorldErr.TheVariants as Err_is
 use Rattle.fed_world.specs.declared.world.World.{World}
 use Rattle.fed_world.specs.Beginnings.{made_up}
 use Rattle.fed_world.specs.Faults.{RisesAt}
-use Rattle.fed_world.specs.Worlds.{EachStory, IsBroken, Stands}
+use Rattle.fed_world.specs.Worlds.{EachWhere, IsBroken, Stands}
 use Rattle.closing.specs.Between.{WereCalm}
 
 -- the numbers of all these commands fit, behind the lines with which the session begins
@@ -45,12 +45,20 @@ abbrev pub FailsToward : {D : Type 0} → (D → Seen) → Bool → WorldErr →
 FailsToward seen tells Err_is.Memory old world disks whole session commands = IsShort tells world disks whole session commands
 FailsToward seen tells (Err_is.Disk number) old world disks whole session commands = BreaksAt seen number tells old world disks whole session commands
 
--- behind this the world, with its disks, has all these commands behind it
-abbrev pub Reaches : Bool → World → List Seen → World → List Seen → (Session → List Command → Type 0) → (Session → List Command → List Command) → Type 0
-Reaches tells old before new after Can whole =
-    EachStory (Stands tells old before) (λ session commands. Can session commands → Stands tells new after session (whole session commands))
+-- what comes of a call, from an old world with these disks to a new one with those
+module _ {D : Type 0} (seen : D → Seen) (tells : Bool) (old : World) (before : List D) (new : World) (after : List D) where
+  -- behind commands for which the old world stood, where this may come, the new one has all these commands behind it
+  abbrev pub ReachesWhere : (Session → List Command → Type 0) → (Session → List Command → List Command) → Type 0
+  ReachesWhere Can whole = EachWhere (Stands tells old (map seen before)) Can (λ session commands. Stands tells new (map seen after) session (whole session commands))
 
--- it fails on the way to them
-abbrev pub FallsShort : {D : Type 0} → (D → Seen) → Bool → World → List Seen → WorldErr → World → List Seen → (Session → List Command → Type 0) → (Session → List Command → List Command) → Type 0
-FallsShort seen tells old before why new after Can whole =
-    EachStory (Stands tells old before) (λ session commands. Can session commands → FailsToward seen tells why before new after (whole session commands) session commands)
+  -- or it fails on the way to them, for this reason
+  abbrev pub FallsShortWhere : (Session → List Command → Type 0) → (Session → List Command → List Command) → WorldErr → Type 0
+  FallsShortWhere Can whole why =
+      EachWhere (Stands tells old (map seen before)) Can (λ session commands. FailsToward seen tells why (map seen before) new (map seen after) (whole session commands) session commands)
+
+  -- so it is where the numbers of all these commands fit
+  abbrev pub Reaches : (Session → List Command → List Command) → Type 0
+  Reaches whole = ReachesWhere (WillFit whole) whole
+
+  abbrev pub FallsShort : (Session → List Command → List Command) → WorldErr → Type 0
+  FallsShort whole why = FallsShortWhere (WillFit whole) whole why

@@ -4,9 +4,9 @@ ghost use Rattle.fed_rules.specs.Closing as rules;
 ghost use Rattle.fed_rules.specs.Closing.{finished_alone, sent_next};
 ghost use Rattle.fed_world.specs.Faults.{CountsTell};
 ghost use Rattle.fed_world.specs.FreshWorlds.{HasLines, Stands};
-ghost use Rattle.fed_world.specs.Worlds.{EachStory, SomeStory};
+ghost use Rattle.fed_world.specs.Worlds.{EachStory, EachWhere, SomeStory};
 ghost use Rattle.closing.specs.Alone.{AllCommit, CanAllCommit, CanFinish, all_alone, delivered_next, queue_after};
-ghost use Rattle.closing.specs.FreshTowards.{FallsShort, Reaches, WillFit};
+ghost use Rattle.closing.specs.FreshTowards.{FallsShort, FallsShortWhere, Reaches, ReachesWhere, WillFit};
 
 use crate::delivering::take_sent;
 use crate::reading::every_scenario_is_one;
@@ -29,8 +29,8 @@ fn steps_alone<D: Disk>(
 ) -> Result<(), WorldErr>
     requires told { IsTrue D.tells }
     requires stood { SomeStory (Stands D.tells world.old (map D.seen disks.old.items)) (WillFit (λ scenario. rules.steps_alone tx steps.now)) }
-    ensures done { OnOk result (Reaches D.tells world.old (map D.seen disks.old.items) world.new (map D.seen disks.new.items) (WillFit (λ scenario. rules.steps_alone tx steps.now)) (λ scenario. rules.steps_alone tx steps.now)) }
-    ensures failed { IfErr result (λ why. FallsShort D.seen D.tells world.old (map D.seen disks.old.items) why world.new (map D.seen disks.new.items) (WillFit (λ scenario. rules.steps_alone tx steps.now)) (λ scenario. rules.steps_alone tx steps.now)) }
+    ensures done { OnOk result (Reaches D.seen D.tells world.old disks.old.items world.new disks.new.items (λ scenario. rules.steps_alone tx steps.now)) }
+    ensures failed { IfErr result (FallsShort D.seen D.tells world.old disks.old.items world.new disks.new.items (λ scenario. rules.steps_alone tx steps.now)) }
     ensures cause { CountsTell result (map D.seen disks.old.items) (map D.seen disks.new.items) }
 {
     for done in 0..steps.len() {
@@ -50,8 +50,8 @@ fn local_alone<D: Disk>(
 ) -> Result<(), WorldErr>
     requires told { IsTrue D.tells }
     requires stood { SomeStory (Stands D.tells world.old (map D.seen disks.old.items)) (WillFit (λ scenario. rules.local_alone tx steps.now)) }
-    ensures done { OnOk result (Reaches D.tells world.old (map D.seen disks.old.items) world.new (map D.seen disks.new.items) (WillFit (λ scenario. rules.local_alone tx steps.now)) (λ scenario. rules.local_alone tx steps.now)) }
-    ensures failed { IfErr result (λ why. FallsShort D.seen D.tells world.old (map D.seen disks.old.items) why world.new (map D.seen disks.new.items) (WillFit (λ scenario. rules.local_alone tx steps.now)) (λ scenario. rules.local_alone tx steps.now)) }
+    ensures done { OnOk result (Reaches D.seen D.tells world.old disks.old.items world.new disks.new.items (λ scenario. rules.local_alone tx steps.now)) }
+    ensures failed { IfErr result (FallsShort D.seen D.tells world.old disks.old.items world.new disks.new.items (λ scenario. rules.local_alone tx steps.now)) }
     ensures cause { CountsTell result (map D.seen disks.old.items) (map D.seen disks.new.items) }
 {
     world.apply(alloc, disks, Command::Begin(tx))?;
@@ -78,9 +78,9 @@ fn deliver_next<D: Disk>(
 ) -> Result<Places, WorldErr>
     requires told { IsTrue D.tells }
     requires stood { SomeStory (Stands D.tells world.old (map D.seen disks.old.items)) (WillFit (delivered_next place)) }
-    ensures sent { IfOk result (λ sent. EachStory (Stands D.tells world.old (map D.seen disks.old.items)) (λ scenario commands. WillFit (delivered_next place) scenario commands → sent ≡ queue_after scenario place commands)) }
-    ensures done { OnOk result (Reaches D.tells world.old (map D.seen disks.old.items) world.new (map D.seen disks.new.items) (WillFit (delivered_next place)) (delivered_next place)) }
-    ensures failed { IfErr result (λ why. FallsShort D.seen D.tells world.old (map D.seen disks.old.items) why world.new (map D.seen disks.new.items) (WillFit (delivered_next place)) (delivered_next place)) }
+    ensures sent { IfOk result (λ sent. EachWhere (Stands D.tells world.old (map D.seen disks.old.items)) (WillFit (delivered_next place)) (λ scenario commands. sent ≡ queue_after scenario place commands)) }
+    ensures done { OnOk result (Reaches D.seen D.tells world.old disks.old.items world.new disks.new.items (delivered_next place)) }
+    ensures failed { IfErr result (FallsShort D.seen D.tells world.old disks.old.items world.new disks.new.items (delivered_next place)) }
     ensures cause { CountsTell result (map D.seen disks.old.items) (map D.seen disks.new.items) }
 {
     let command = Command::Give {
@@ -108,8 +108,8 @@ fn global_alone<D: Disk>(
 ) -> Result<(), WorldErr>
     requires told { IsTrue D.tells }
     requires stood { SomeStory (Stands D.tells world.old (map D.seen disks.old.items)) (WillFit (λ scenario. rules.global_alone scenario tx steps.now)) }
-    ensures done { OnOk result (Reaches D.tells world.old (map D.seen disks.old.items) world.new (map D.seen disks.new.items) (WillFit (λ scenario. rules.global_alone scenario tx steps.now)) (λ scenario. rules.global_alone scenario tx steps.now)) }
-    ensures failed { IfErr result (λ why. FallsShort D.seen D.tells world.old (map D.seen disks.old.items) why world.new (map D.seen disks.new.items) (WillFit (λ scenario. rules.global_alone scenario tx steps.now)) (λ scenario. rules.global_alone scenario tx steps.now)) }
+    ensures done { OnOk result (Reaches D.seen D.tells world.old disks.old.items world.new disks.new.items (λ scenario. rules.global_alone scenario tx steps.now)) }
+    ensures failed { IfErr result (FallsShort D.seen D.tells world.old disks.old.items world.new disks.new.items (λ scenario. rules.global_alone scenario tx steps.now)) }
     ensures cause { CountsTell result (map D.seen disks.old.items) (map D.seen disks.new.items) }
 {
     world.apply(alloc, disks, Command::Go(tx))?;
@@ -138,8 +138,8 @@ fn one_alone<D: Disk>(
 ) -> Result<(), WorldErr>
     requires told { IsTrue D.tells }
     requires stood { SomeStory (Stands D.tells world.old (map D.seen disks.old.items)) (WillFit (λ scenario. rules.one_alone scenario line.now line.now.home)) }
-    ensures done { OnOk result (Reaches D.tells world.old (map D.seen disks.old.items) world.new (map D.seen disks.new.items) (WillFit (λ scenario. rules.one_alone scenario line.now line.now.home)) (λ scenario. rules.one_alone scenario line.now line.now.home)) }
-    ensures failed { IfErr result (λ why. FallsShort D.seen D.tells world.old (map D.seen disks.old.items) why world.new (map D.seen disks.new.items) (WillFit (λ scenario. rules.one_alone scenario line.now line.now.home)) (λ scenario. rules.one_alone scenario line.now line.now.home)) }
+    ensures done { OnOk result (Reaches D.seen D.tells world.old disks.old.items world.new disks.new.items (λ scenario. rules.one_alone scenario line.now line.now.home)) }
+    ensures failed { IfErr result (FallsShort D.seen D.tells world.old disks.old.items world.new disks.new.items (λ scenario. rules.one_alone scenario line.now line.now.home)) }
     ensures cause { CountsTell result (map D.seen disks.old.items) (map D.seen disks.new.items) }
 {
     match line.home {
@@ -157,8 +157,8 @@ fn each_alone<D: Disk>(
 ) -> Result<(), WorldErr>
     requires told { IsTrue D.tells }
     requires stood { SomeStory (Stands D.tells world.old (map D.seen disks.old.items)) (WillFit (all_alone lines.now)) }
-    ensures done { OnOk result (Reaches D.tells world.old (map D.seen disks.old.items) world.new (map D.seen disks.new.items) (WillFit (all_alone lines.now)) (all_alone lines.now)) }
-    ensures failed { IfErr result (λ why. FallsShort D.seen D.tells world.old (map D.seen disks.old.items) why world.new (map D.seen disks.new.items) (WillFit (all_alone lines.now)) (all_alone lines.now)) }
+    ensures done { OnOk result (Reaches D.seen D.tells world.old disks.old.items world.new disks.new.items (all_alone lines.now)) }
+    ensures failed { IfErr result (FallsShort D.seen D.tells world.old disks.old.items world.new disks.new.items (all_alone lines.now)) }
     ensures cause { CountsTell result (map D.seen disks.old.items) (map D.seen disks.new.items) }
 {
     for line in lines {
@@ -178,10 +178,10 @@ pub fn finish_alone<D: Disk>(
 ) -> Result<(), WorldErr>
     requires told { IsTrue D.tells }
     requires stood { SomeStory (Stands D.tells world.old (map D.seen disks.old.items)) CanFinish }
-    ensures done { OnOk result (Reaches D.tells world.old (map D.seen disks.old.items) world.new (map D.seen disks.new.items) CanFinish finished_alone) }
+    ensures done { OnOk result (ReachesWhere D.seen D.tells world.old disks.old.items world.new disks.new.items CanFinish finished_alone) }
     ensures commits { OnOk result (SomeStory (Stands D.tells world.old (map D.seen disks.old.items)) CanAllCommit
         → EachStory (Stands D.tells world.new (map D.seen disks.new.items)) AllCommit) }
-    ensures failed { IfErr result (λ why. FallsShort D.seen D.tells world.old (map D.seen disks.old.items) why world.new (map D.seen disks.new.items) CanFinish finished_alone) }
+    ensures failed { IfErr result (FallsShortWhere D.seen D.tells world.old disks.old.items world.new disks.new.items CanFinish finished_alone) }
     ensures cause { CountsTell result (map D.seen disks.old.items) (map D.seen disks.new.items) }
 {
     finishing_is_bounded();

@@ -19,8 +19,8 @@ pub(crate) fn carry_out<D: Disk>(
 ) -> Result<(), WorldErr>
     requires told { IsTrue D.tells }
     requires stood { SomeStory (Stands D.tells world.old (map D.seen disks.old.items)) (FitWith commands.now) }
-    ensures done { OnOk result (Reaches D.tells world.old (map D.seen disks.old.items) world.new (map D.seen disks.new.items) (FitWith commands.now) (λ session before. with_commands commands.now before)) }
-    ensures failed { IfErr result (λ why. FallsShort D.seen D.tells world.old (map D.seen disks.old.items) why world.new (map D.seen disks.new.items) (FitWith commands.now) (λ session before. with_commands commands.now before)) }
+    ensures done { OnOk result (Reaches D.seen D.tells world.old disks.old.items world.new disks.new.items (λ session before. with_commands commands.now before)) }
+    ensures failed { IfErr result (FallsShort D.seen D.tells world.old disks.old.items world.new disks.new.items (λ session before. with_commands commands.now before)) }
     ensures cause { CountsTell result (map D.seen disks.old.items) (map D.seen disks.new.items) }
 {
     for command in commands {

@@ -4,9 +4,9 @@ ghost use Rattle.fed_rules.specs.Closing as rules;
 ghost use Rattle.fed_rules.specs.Closing.{closed_in};
 ghost use Rattle.fed_world.specs.Faults.{CountsTell};
 ghost use Rattle.fed_world.specs.FreshWorlds as Fresh;
-ghost use Rattle.fed_world.specs.Worlds.{EachStory, Rests, SomeStory, Stands};
+ghost use Rattle.fed_world.specs.Worlds.{EachStory, EachWhere, Rests, SomeStory, Stands};
 ghost use Rattle.closing.specs.Steps.{CanClose, MayClose, MayStep};
-ghost use Rattle.closing.specs.Towards.{FallsShort, Reaches, WillFit};
+ghost use Rattle.closing.specs.Towards.{FallsShort, FallsShortWhere, Reaches, ReachesWhere, WillFit};
 
 use crate::actors::{armed_actors, clearing, doubtful, down_actors, known, undecided};
 use crate::carrying::carry_out;
@@ -21,8 +21,8 @@ use std::alloc::Global;
 fn disarm<D: Disk>(alloc: Global, world: &mut World, disks: &mut Vec<D>) -> Result<(), WorldErr>
     requires told { IsTrue D.tells }
     requires stood { SomeStory (Stands D.tells world.old (map D.seen disks.old.items)) (WillFit rules.disarm) }
-    ensures done { OnOk result (Reaches D.tells world.old (map D.seen disks.old.items) world.new (map D.seen disks.new.items) (WillFit rules.disarm) rules.disarm) }
-    ensures failed { IfErr result (λ why. FallsShort D.seen D.tells world.old (map D.seen disks.old.items) why world.new (map D.seen disks.new.items) (WillFit rules.disarm) rules.disarm) }
+    ensures done { OnOk result (Reaches D.seen D.tells world.old disks.old.items world.new disks.new.items rules.disarm) }
+    ensures failed { IfErr result (FallsShort D.seen D.tells world.old disks.old.items world.new disks.new.items rules.disarm) }
     ensures cause { CountsTell result (map D.seen disks.old.items) (map D.seen disks.new.items) }
 {
     let Ok(armed) = armed_actors(alloc, world) else {
@@ -38,8 +38,8 @@ fn disarm<D: Disk>(alloc: Global, world: &mut World, disks: &mut Vec<D>) -> Resu
 fn bring_up<D: Disk>(alloc: Global, world: &mut World, disks: &mut Vec<D>) -> Result<(), WorldErr>
     requires told { IsTrue D.tells }
     requires stood { SomeStory (Stands D.tells world.old (map D.seen disks.old.items)) (WillFit rules.bring_up) }
-    ensures done { OnOk result (Reaches D.tells world.old (map D.seen disks.old.items) world.new (map D.seen disks.new.items) (WillFit rules.bring_up) rules.bring_up) }
-    ensures failed { IfErr result (λ why. FallsShort D.seen D.tells world.old (map D.seen disks.old.items) why world.new (map D.seen disks.new.items) (WillFit rules.bring_up) rules.bring_up) }
+    ensures done { OnOk result (Reaches D.seen D.tells world.old disks.old.items world.new disks.new.items rules.bring_up) }
+    ensures failed { IfErr result (FallsShort D.seen D.tells world.old disks.old.items world.new disks.new.items rules.bring_up) }
     ensures cause { CountsTell result (map D.seen disks.old.items) (map D.seen disks.new.items) }
 {
     let Ok(down) = down_actors(alloc, world) else {
@@ -55,8 +55,8 @@ fn bring_up<D: Disk>(alloc: Global, world: &mut World, disks: &mut Vec<D>) -> Re
 fn give_up<D: Disk>(alloc: Global, world: &mut World, disks: &mut Vec<D>) -> Result<(), WorldErr>
     requires told { IsTrue D.tells }
     requires stood { SomeStory (Stands D.tells world.old (map D.seen disks.old.items)) (MayStep rules.give_up) }
-    ensures done { OnOk result (Reaches D.tells world.old (map D.seen disks.old.items) world.new (map D.seen disks.new.items) (MayStep rules.give_up) rules.give_up) }
-    ensures failed { IfErr result (λ why. FallsShort D.seen D.tells world.old (map D.seen disks.old.items) why world.new (map D.seen disks.new.items) (MayStep rules.give_up) rules.give_up) }
+    ensures done { OnOk result (ReachesWhere D.seen D.tells world.old disks.old.items world.new disks.new.items (MayStep rules.give_up) rules.give_up) }
+    ensures failed { IfErr result (FallsShortWhere D.seen D.tells world.old disks.old.items world.new disks.new.items (MayStep rules.give_up) rules.give_up) }
     ensures cause { CountsTell result (map D.seen disks.old.items) (map D.seen disks.new.items) }
 {
     let Ok(tids) = undecided(alloc, world) else {
@@ -72,8 +72,8 @@ fn give_up<D: Disk>(alloc: Global, world: &mut World, disks: &mut Vec<D>) -> Res
 fn clear<D: Disk>(alloc: Global, world: &mut World, disks: &mut Vec<D>) -> Result<(), WorldErr>
     requires told { IsTrue D.tells }
     requires stood { SomeStory (Stands D.tells world.old (map D.seen disks.old.items)) (MayStep rules.clear) }
-    ensures done { OnOk result (Reaches D.tells world.old (map D.seen disks.old.items) world.new (map D.seen disks.new.items) (MayStep rules.clear) rules.clear) }
-    ensures failed { IfErr result (λ why. FallsShort D.seen D.tells world.old (map D.seen disks.old.items) why world.new (map D.seen disks.new.items) (MayStep rules.clear) rules.clear) }
+    ensures done { OnOk result (ReachesWhere D.seen D.tells world.old disks.old.items world.new disks.new.items (MayStep rules.clear) rules.clear) }
+    ensures failed { IfErr result (FallsShortWhere D.seen D.tells world.old disks.old.items world.new disks.new.items (MayStep rules.clear) rules.clear) }
     ensures cause { CountsTell result (map D.seen disks.old.items) (map D.seen disks.new.items) }
 {
     let Ok(commands) = clearing(alloc, world) else {
@@ -86,8 +86,8 @@ fn clear<D: Disk>(alloc: Global, world: &mut World, disks: &mut Vec<D>) -> Resul
 fn end_known<D: Disk>(alloc: Global, world: &mut World, disks: &mut Vec<D>) -> Result<(), WorldErr>
     requires told { IsTrue D.tells }
     requires stood { SomeStory (Stands D.tells world.old (map D.seen disks.old.items)) (MayStep rules.end_known) }
-    ensures done { OnOk result (Reaches D.tells world.old (map D.seen disks.old.items) world.new (map D.seen disks.new.items) (MayStep rules.end_known) rules.end_known) }
-    ensures failed { IfErr result (λ why. FallsShort D.seen D.tells world.old (map D.seen disks.old.items) why world.new (map D.seen disks.new.items) (MayStep rules.end_known) rules.end_known) }
+    ensures done { OnOk result (ReachesWhere D.seen D.tells world.old disks.old.items world.new disks.new.items (MayStep rules.end_known) rules.end_known) }
+    ensures failed { IfErr result (FallsShortWhere D.seen D.tells world.old disks.old.items world.new disks.new.items (MayStep rules.end_known) rules.end_known) }
     ensures cause { CountsTell result (map D.seen disks.old.items) (map D.seen disks.new.items) }
 {
     let Ok(tids) = known(alloc, world) else {
@@ -100,8 +100,8 @@ fn end_known<D: Disk>(alloc: Global, world: &mut World, disks: &mut Vec<D>) -> R
 fn ask_all<D: Disk>(alloc: Global, world: &mut World, disks: &mut Vec<D>) -> Result<(), WorldErr>
     requires told { IsTrue D.tells }
     requires stood { SomeStory (Stands D.tells world.old (map D.seen disks.old.items)) (MayStep rules.ask_all) }
-    ensures done { OnOk result (Reaches D.tells world.old (map D.seen disks.old.items) world.new (map D.seen disks.new.items) (MayStep rules.ask_all) rules.ask_all) }
-    ensures failed { IfErr result (λ why. FallsShort D.seen D.tells world.old (map D.seen disks.old.items) why world.new (map D.seen disks.new.items) (MayStep rules.ask_all) rules.ask_all) }
+    ensures done { OnOk result (ReachesWhere D.seen D.tells world.old disks.old.items world.new disks.new.items (MayStep rules.ask_all) rules.ask_all) }
+    ensures failed { IfErr result (FallsShortWhere D.seen D.tells world.old disks.old.items world.new disks.new.items (MayStep rules.ask_all) rules.ask_all) }
     ensures cause { CountsTell result (map D.seen disks.old.items) (map D.seen disks.new.items) }
 {
     let Ok(sites) = doubtful(alloc, world) else {
@@ -114,8 +114,8 @@ fn ask_all<D: Disk>(alloc: Global, world: &mut World, disks: &mut Vec<D>) -> Res
 fn each_step<D: Disk>(alloc: Global, world: &mut World, disks: &mut Vec<D>) -> Result<(), WorldErr>
     requires told { IsTrue D.tells }
     requires stood { SomeStory (Stands D.tells world.old (map D.seen disks.old.items)) MayClose }
-    ensures done { OnOk result (Reaches D.tells world.old (map D.seen disks.old.items) world.new (map D.seen disks.new.items) MayClose closed_in) }
-    ensures failed { IfErr result (λ why. FallsShort D.seen D.tells world.old (map D.seen disks.old.items) why world.new (map D.seen disks.new.items) MayClose closed_in) }
+    ensures done { OnOk result (ReachesWhere D.seen D.tells world.old disks.old.items world.new disks.new.items MayClose closed_in) }
+    ensures failed { IfErr result (FallsShortWhere D.seen D.tells world.old disks.old.items world.new disks.new.items MayClose closed_in) }
     ensures cause { CountsTell result (map D.seen disks.old.items) (map D.seen disks.new.items) }
 {
     disarm(alloc, world, disks)?;
@@ -133,11 +133,10 @@ fn each_step<D: Disk>(alloc: Global, world: &mut World, disks: &mut Vec<D>) -> R
 pub fn close<D: Disk>(alloc: Global, world: &mut World, disks: &mut Vec<D>) -> Result<(), WorldErr>
     requires told { IsTrue D.tells }
     requires stood { SomeStory (Stands D.tells world.old (map D.seen disks.old.items)) CanClose }
-    ensures done { OnOk result (Reaches D.tells world.old (map D.seen disks.old.items) world.new (map D.seen disks.new.items) CanClose closed_in) }
-    ensures rests { OnOk result (EachStory (Stands D.tells world.old (map D.seen disks.old.items))
-        (λ session commands. CanClose session commands → Rests session (closed_in session commands))) }
+    ensures done { OnOk result (ReachesWhere D.seen D.tells world.old disks.old.items world.new disks.new.items CanClose closed_in) }
+    ensures rests { OnOk result (EachWhere (Stands D.tells world.old (map D.seen disks.old.items)) CanClose (λ session commands. Rests session (closed_in session commands))) }
     ensures fresh { OnOk result (EachStory (Fresh.Stands D.tells world.new (map D.seen disks.new.items)) Fresh.Rests) }
-    ensures failed { IfErr result (λ why. FallsShort D.seen D.tells world.old (map D.seen disks.old.items) why world.new (map D.seen disks.new.items) CanClose closed_in) }
+    ensures failed { IfErr result (FallsShortWhere D.seen D.tells world.old disks.old.items world.new disks.new.items CanClose closed_in) }
     ensures cause { CountsTell result (map D.seen disks.old.items) (map D.seen disks.new.items) }
 {
     sessions_stay_up();

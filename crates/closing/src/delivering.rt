@@ -17,8 +17,8 @@ use std::alloc::Global;
 fn take_all<D: Disk>(alloc: Global, world: &mut World, disks: &mut Vec<D>) -> Result<(), WorldErr>
     requires told { IsTrue D.tells }
     requires stood { SomeStory (Stands D.tells world.old (map D.seen disks.old.items)) (WillFit taken) }
-    ensures done { OnOk result (Reaches D.tells world.old (map D.seen disks.old.items) world.new (map D.seen disks.new.items) (WillFit taken) taken) }
-    ensures failed { IfErr result (λ why. FallsShort D.seen D.tells world.old (map D.seen disks.old.items) why world.new (map D.seen disks.new.items) (WillFit taken) taken) }
+    ensures done { OnOk result (Reaches D.seen D.tells world.old disks.old.items world.new disks.new.items taken) }
+    ensures failed { IfErr result (FallsShort D.seen D.tells world.old disks.old.items world.new disks.new.items taken) }
     ensures cause { CountsTell result (map D.seen disks.old.items) (map D.seen disks.new.items) }
 {
     let Ok(places) = last_places(alloc, world) else {
@@ -38,8 +38,8 @@ pub(crate) fn take_sent<D: Disk>(
 ) -> Result<(), WorldErr>
     requires told { IsTrue D.tells }
     requires stood { SomeStory (Stands D.tells world.old (map D.seen disks.old.items)) (WillFit taken) }
-    ensures done { OnOk result (Reaches D.tells world.old (map D.seen disks.old.items) world.new (map D.seen disks.new.items) (WillFit taken) taken) }
-    ensures failed { IfErr result (λ why. FallsShort D.seen D.tells world.old (map D.seen disks.old.items) why world.new (map D.seen disks.new.items) (WillFit taken) taken) }
+    ensures done { OnOk result (Reaches D.seen D.tells world.old disks.old.items world.new disks.new.items taken) }
+    ensures failed { IfErr result (FallsShort D.seen D.tells world.old disks.old.items world.new disks.new.items taken) }
     ensures cause { CountsTell result (map D.seen disks.old.items) (map D.seen disks.new.items) }
 {
     match only_sent(world) {
@@ -62,8 +62,8 @@ pub(crate) fn give_sent<D: Disk>(
 ) -> Result<(), WorldErr>
     requires told { IsTrue D.tells }
     requires stood { SomeStory (Stands D.tells world.old (map D.seen disks.old.items)) (WillFit last_sends_given) }
-    ensures done { OnOk result (Reaches D.tells world.old (map D.seen disks.old.items) world.new (map D.seen disks.new.items) (WillFit last_sends_given) last_sends_given) }
-    ensures failed { IfErr result (λ why. FallsShort D.seen D.tells world.old (map D.seen disks.old.items) why world.new (map D.seen disks.new.items) (WillFit last_sends_given) last_sends_given) }
+    ensures done { OnOk result (Reaches D.seen D.tells world.old disks.old.items world.new disks.new.items last_sends_given) }
+    ensures failed { IfErr result (FallsShort D.seen D.tells world.old disks.old.items world.new disks.new.items last_sends_given) }
     ensures cause { CountsTell result (map D.seen disks.old.items) (map D.seen disks.new.items) }
 {
     let Ok(places) = last_places(alloc, world) else {
@@ -84,8 +84,8 @@ pub(crate) fn deliver<D: Disk>(
 ) -> Result<(), WorldErr>
     requires told { IsTrue D.tells }
     requires stood { SomeStory (Stands D.tells world.old (map D.seen disks.old.items)) (WillFit (λ session. delivered session place)) }
-    ensures done { OnOk result (Reaches D.tells world.old (map D.seen disks.old.items) world.new (map D.seen disks.new.items) (WillFit (λ session. delivered session place)) (λ session. delivered session place)) }
-    ensures failed { IfErr result (λ why. FallsShort D.seen D.tells world.old (map D.seen disks.old.items) why world.new (map D.seen disks.new.items) (WillFit (λ session. delivered session place)) (λ session. delivered session place)) }
+    ensures done { OnOk result (Reaches D.seen D.tells world.old disks.old.items world.new disks.new.items (λ session. delivered session place)) }
+    ensures failed { IfErr result (FallsShort D.seen D.tells world.old disks.old.items world.new disks.new.items (λ session. delivered session place)) }
     ensures cause { CountsTell result (map D.seen disks.old.items) (map D.seen disks.new.items) }
 {
     let command = Command::Give {

@@ -24,8 +24,8 @@ fn deliver_each<D: Disk>(
 ) -> Result<(), WorldErr>
     requires told { IsTrue D.tells }
     requires stood { SomeStory (Stands D.tells world.old (map D.seen disks.old.items)) (WillFit (deliver_all places.now)) }
-    ensures done { OnOk result (Reaches D.tells world.old (map D.seen disks.old.items) world.new (map D.seen disks.new.items) (WillFit (deliver_all places.now)) (deliver_all places.now)) }
-    ensures failed { IfErr result (λ why. FallsShort D.seen D.tells world.old (map D.seen disks.old.items) why world.new (map D.seen disks.new.items) (WillFit (deliver_all places.now)) (deliver_all places.now)) }
+    ensures done { OnOk result (Reaches D.seen D.tells world.old disks.old.items world.new disks.new.items (deliver_all places.now)) }
+    ensures failed { IfErr result (FallsShort D.seen D.tells world.old disks.old.items world.new disks.new.items (deliver_all places.now)) }
     ensures cause { CountsTell result (map D.seen disks.old.items) (map D.seen disks.new.items) }
 {
     for place in places {
@@ -43,8 +43,8 @@ fn send_again<D: Disk>(
 ) -> Result<(), WorldErr>
     requires told { IsTrue D.tells }
     requires stood { SomeStory (Stands D.tells world.old (map D.seen disks.old.items)) (WillFit (λ session. sent_again session tid)) }
-    ensures done { OnOk result (Reaches D.tells world.old (map D.seen disks.old.items) world.new (map D.seen disks.new.items) (WillFit (λ session. sent_again session tid)) (λ session. sent_again session tid)) }
-    ensures failed { IfErr result (λ why. FallsShort D.seen D.tells world.old (map D.seen disks.old.items) why world.new (map D.seen disks.new.items) (WillFit (λ session. sent_again session tid)) (λ session. sent_again session tid)) }
+    ensures done { OnOk result (Reaches D.seen D.tells world.old disks.old.items world.new disks.new.items (λ session. sent_again session tid)) }
+    ensures failed { IfErr result (FallsShort D.seen D.tells world.old disks.old.items world.new disks.new.items (λ session. sent_again session tid)) }
     ensures cause { CountsTell result (map D.seen disks.old.items) (map D.seen disks.new.items) }
 {
     world.apply(alloc, disks, Command::Again(tid))?;
@@ -64,8 +64,8 @@ fn inquire<D: Disk>(
 ) -> Result<(), WorldErr>
     requires told { IsTrue D.tells }
     requires stood { SomeStory (Stands D.tells world.old (map D.seen disks.old.items)) (WillFit (λ session. inquired session site tid)) }
-    ensures done { OnOk result (Reaches D.tells world.old (map D.seen disks.old.items) world.new (map D.seen disks.new.items) (WillFit (λ session. inquired session site tid)) (λ session. inquired session site tid)) }
-    ensures failed { IfErr result (λ why. FallsShort D.seen D.tells world.old (map D.seen disks.old.items) why world.new (map D.seen disks.new.items) (WillFit (λ session. inquired session site tid)) (λ session. inquired session site tid)) }
+    ensures done { OnOk result (Reaches D.seen D.tells world.old disks.old.items world.new disks.new.items (λ session. inquired session site tid)) }
+    ensures failed { IfErr result (FallsShort D.seen D.tells world.old disks.old.items world.new disks.new.items (λ session. inquired session site tid)) }
     ensures cause { CountsTell result (map D.seen disks.old.items) (map D.seen disks.new.items) }
 {
     world.apply(alloc, disks, Command::Ask { site, tid })?;
@@ -83,8 +83,8 @@ fn ask_about<D: Disk>(
 ) -> Result<(), WorldErr>
     requires told { IsTrue D.tells }
     requires stood { SomeStory (Stands D.tells world.old (map D.seen disks.old.items)) (WillFit (asks_about site tids.now)) }
-    ensures done { OnOk result (Reaches D.tells world.old (map D.seen disks.old.items) world.new (map D.seen disks.new.items) (WillFit (asks_about site tids.now)) (asks_about site tids.now)) }
-    ensures failed { IfErr result (λ why. FallsShort D.seen D.tells world.old (map D.seen disks.old.items) why world.new (map D.seen disks.new.items) (WillFit (asks_about site tids.now)) (asks_about site tids.now)) }
+    ensures done { OnOk result (Reaches D.seen D.tells world.old disks.old.items world.new disks.new.items (asks_about site tids.now)) }
+    ensures failed { IfErr result (FallsShort D.seen D.tells world.old disks.old.items world.new disks.new.items (asks_about site tids.now)) }
     ensures cause { CountsTell result (map D.seen disks.old.items) (map D.seen disks.new.items) }
 {
     for tid in tids {
@@ -102,8 +102,8 @@ pub(crate) fn send_each<D: Disk>(
 ) -> Result<(), WorldErr>
     requires told { IsTrue D.tells }
     requires stood { SomeStory (Stands D.tells world.old (map D.seen disks.old.items)) (WillFit (sent_for tids.now)) }
-    ensures done { OnOk result (Reaches D.tells world.old (map D.seen disks.old.items) world.new (map D.seen disks.new.items) (WillFit (sent_for tids.now)) (sent_for tids.now)) }
-    ensures failed { IfErr result (λ why. FallsShort D.seen D.tells world.old (map D.seen disks.old.items) why world.new (map D.seen disks.new.items) (WillFit (sent_for tids.now)) (sent_for tids.now)) }
+    ensures done { OnOk result (Reaches D.seen D.tells world.old disks.old.items world.new disks.new.items (sent_for tids.now)) }
+    ensures failed { IfErr result (FallsShort D.seen D.tells world.old disks.old.items world.new disks.new.items (sent_for tids.now)) }
     ensures cause { CountsTell result (map D.seen disks.old.items) (map D.seen disks.new.items) }
 {
     for tid in tids {
@@ -121,8 +121,8 @@ pub(crate) fn ask_each<D: Disk>(
 ) -> Result<(), WorldErr>
     requires told { IsTrue D.tells }
     requires stood { SomeStory (Stands D.tells world.old (map D.seen disks.old.items)) (WillFit (asks_all sites.now)) }
-    ensures done { OnOk result (Reaches D.tells world.old (map D.seen disks.old.items) world.new (map D.seen disks.new.items) (WillFit (asks_all sites.now)) (asks_all sites.now)) }
-    ensures failed { IfErr result (λ why. FallsShort D.seen D.tells world.old (map D.seen disks.old.items) why world.new (map D.seen disks.new.items) (WillFit (asks_all sites.now)) (asks_all sites.now)) }
+    ensures done { OnOk result (Reaches D.seen D.tells world.old disks.old.items world.new disks.new.items (asks_all sites.now)) }
+    ensures failed { IfErr result (FallsShort D.seen D.tells world.old disks.old.items world.new disks.new.items (asks_all sites.now)) }
     ensures cause { CountsTell result (map D.seen disks.old.items) (map D.seen disks.new.items) }
 {
     for at in sites {

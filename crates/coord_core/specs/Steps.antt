@@ -44,17 +44,24 @@ CanStep (Ev.Trip calls cut) terms past = Unit {0}
 CanStep Ev.Back terms past = Unit {0}
 CanStep Ev.Check terms past = Unit {0}
 
--- for every past that the core stood for, on which the event may come, the step is that of the next line
-abbrev pub Answers : {P : Type 0} → (P → Policy) → Bool → CoordEvent → CoordCore P → Seen → CoordStep → CoordCore P → Seen → Type 0
-Answers test tells event old before step new after =
-    (terms : Terms) (past : CoordPast) → Stands test tells old before terms past → CanStep event terms past
-    → Steps test tells step new after terms past (line_of terms past event)
+-- what a step does, from an old core with what is seen of its disk before, to a new one with what is seen of its disk after
+module _ {P : Type 0} (test : P → Policy) (tells : Bool) (old : CoordCore P) (before : Seen) (new : CoordCore P) (after : Seen) where
+  -- of each past for which the old core stood, where this may come, the step is the answer to the event, and the new core stands for the next
+  -- line
+  abbrev pub StepsWhere : (Terms → CoordPast → Type 0) → CoordEvent → CoordStep → Type 0
+  StepsWhere Can event step =
+      EachPast (Stands test tells old before) (λ terms past. Can terms past → Steps test tells step new after terms past (line_of terms past event))
 
--- for every such past the event isn't answered, for this reason
-abbrev pub Refuses : {P : Type 0} → (P → Policy) → Bool → CoordEvent → CoordCore P → Seen → StepErr → CoordCore P → Seen → Type 0
-Refuses test tells event old before why new after =
-    (terms : Terms) (past : CoordPast) → Stands test tells old before terms past → CanStep event terms past
-    → Fails test tells why new after terms past event
+  -- of each such past the event isn't answered, for this reason, and the new core stands for what that leaves
+  abbrev pub FailsWhere : (Terms → CoordPast → Type 0) → CoordEvent → StepErr → Type 0
+  FailsWhere Can event why = EachPast (Stands test tells old before) (λ terms past. Can terms past → Fails test tells why new after terms past event)
+
+  -- so it is where the event may come
+  abbrev pub StepsOn : CoordEvent → CoordStep → Type 0
+  StepsOn event step = StepsWhere (CanStep event) event step
+
+  abbrev pub FailsOn : CoordEvent → StepErr → Type 0
+  FailsOn event why = FailsWhere (CanStep event) event why
 
 -- the step says and sends what the line does
 pub record Says (step : CoordStep) (x : CoordHappening) : Type 0 where

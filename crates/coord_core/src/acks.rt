@@ -2,10 +2,9 @@
 ghost use Rattle.std.specs.Prelude.{◌≡◌, IfErr, IfOk, IsTrue};
 ghost use Rattle.mdb_base.specs.Counts.{HasCauseOf};
 ghost use Rattle.fed_rules.specs.declared.messages.FromSite.TheVariants as From;
-ghost use Rattle.fed_rules.specs.CoordPast.{CoordPast, Decided, standing};
-ghost use Rattle.coord_core.specs.Stands.{Fails, Stands, Steps};
-ghost use Rattle.coord_core.specs.Steps.{Answers, CanStep, Refuses, SomePast};
-ghost use Rattle.coord_tables.specs.Terms.{Terms, line_of};
+ghost use Rattle.fed_rules.specs.CoordPast.{Decided, standing};
+ghost use Rattle.coord_core.specs.Stands.{Stands};
+ghost use Rattle.coord_core.specs.Steps.{CanStep, FailsOn, FailsWhere, SomePast, StepsOn, StepsWhere};
 
 use crate::coord::{CoordCore, silent};
 use crate::ending::room_for;
@@ -32,10 +31,8 @@ impl<P: TakePolicy> CoordCore<P> {
         requires told { IsTrue D.tells }
         requires up { self.old.store.standing ≡ Standing.Up }
         requires may { SomePast (Stands P.policy D.tells self.old (D.seen disk.old)) (λ terms past. standing terms.protocols past tid ≡ Decided decision) }
-        ensures answered { IfOk result (λ step. (terms : Terms) (past : CoordPast) → Stands P.policy D.tells self.old (D.seen disk.old) terms past → standing terms.protocols past tid ≡ Decided decision
-            → Steps P.policy D.tells step self.new (D.seen disk.new) terms past (line_of terms past (CoordEvent.Take site (From.Ack tid)))) }
-        ensures failed { IfErr result (λ why. (terms : Terms) (past : CoordPast) → Stands P.policy D.tells self.old (D.seen disk.old) terms past → standing terms.protocols past tid ≡ Decided decision
-            → Fails P.policy D.tells why self.new (D.seen disk.new) terms past (CoordEvent.Take site (From.Ack tid))) }
+        ensures answered { IfOk result (StepsWhere P.policy D.tells self.old (D.seen disk.old) self.new (D.seen disk.new) (λ terms past. standing terms.protocols past tid ≡ Decided decision) (CoordEvent.Take site (From.Ack tid))) }
+        ensures failed { IfErr result (FailsWhere P.policy D.tells self.old (D.seen disk.old) self.new (D.seen disk.new) (λ terms past. standing terms.protocols past tid ≡ Decided decision) (CoordEvent.Take site (From.Ack tid))) }
         ensures cause { HasCauseOf StepErr.Disk (D.seen disk.old).faults (D.seen disk.new).faults result }
     {
         let entry = Some(CoordRecord::End { tid });
@@ -64,8 +61,8 @@ impl<P: TakePolicy> CoordCore<P> {
         requires told { IsTrue D.tells }
         requires up { self.old.store.standing ≡ Standing.Up }
         requires may { SomePast (Stands P.policy D.tells self.old (D.seen disk.old)) (CanStep (CoordEvent.Take site (From.Ack tid))) }
-        ensures answered { IfOk result (λ step. Answers P.policy D.tells (CoordEvent.Take site (From.Ack tid)) self.old (D.seen disk.old) step self.new (D.seen disk.new)) }
-        ensures failed { IfErr result (λ why. Refuses P.policy D.tells (CoordEvent.Take site (From.Ack tid)) self.old (D.seen disk.old) why self.new (D.seen disk.new)) }
+        ensures answered { IfOk result (StepsOn P.policy D.tells self.old (D.seen disk.old) self.new (D.seen disk.new) (CoordEvent.Take site (From.Ack tid))) }
+        ensures failed { IfErr result (FailsOn P.policy D.tells self.old (D.seen disk.old) self.new (D.seen disk.new) (CoordEvent.Take site (From.Ack tid))) }
         ensures cause { HasCauseOf StepErr.Disk (D.seen disk.old).faults (D.seen disk.new).faults result }
     {
         if !self.tables.awaits_ack(tid, site) {

@@ -7,8 +7,8 @@ ghost use Rattle.mdb_base.specs.declared.names.Tid.{Tid as TheTid};
 ghost use Rattle.global_exec.specs.Pasts.{IsAmong};
 ghost use Rattle.journal_disk.specs.Disk.{Seen};
 ghost use Rattle.coord_tables.specs.Replies.{CountsReply, reply_event};
-ghost use Rattle.coord_core.specs.Stands.{Fails, Stands, Steps};
-ghost use Rattle.coord_core.specs.Steps.{Answers, CanStep, Refuses, SomePast};
+ghost use Rattle.coord_core.specs.Stands.{Stands, Steps};
+ghost use Rattle.coord_core.specs.Steps.{CanStep, FailsOn, FailsWhere, SomePast, StepsOn, StepsWhere};
 ghost use Rattle.coord_tables.specs.Terms.{Terms, line_of};
 
 use crate::coord::{CoordCore, silent};
@@ -34,10 +34,8 @@ impl<P: TakePolicy> CoordCore<P> {
         requires up { self.old.store.standing ≡ Standing.Up }
         requires answers { is_answer taken.reply ≡ true }
         requires may { SomePast (Stands P.policy D.tells self.old (D.seen disk.old)) (CountsReply tid taken) }
-        ensures answered { IfOk result (λ step. (terms : Terms) (past : CoordPast) → Stands P.policy D.tells self.old (D.seen disk.old) terms past → CountsReply tid taken terms past
-            → Steps P.policy D.tells step self.new (D.seen disk.new) terms past (line_of terms past (reply_event tid taken))) }
-        ensures failed { IfErr result (λ why. (terms : Terms) (past : CoordPast) → Stands P.policy D.tells self.old (D.seen disk.old) terms past → CountsReply tid taken terms past
-            → Fails P.policy D.tells why self.new (D.seen disk.new) terms past (reply_event tid taken)) }
+        ensures answered { IfOk result (StepsWhere P.policy D.tells self.old (D.seen disk.old) self.new (D.seen disk.new) (CountsReply tid taken) (reply_event tid taken)) }
+        ensures failed { IfErr result (FailsWhere P.policy D.tells self.old (D.seen disk.old) self.new (D.seen disk.new) (CountsReply tid taken) (reply_event tid taken)) }
         ensures cause { HasCauseOf StepErr.Disk (D.seen disk.old).faults (D.seen disk.new).faults result }
     {
         let Taken {
@@ -83,10 +81,8 @@ impl<P: TakePolicy> CoordCore<P> {
         requires told { IsTrue D.tells }
         requires up { self.old.store.standing ≡ Standing.Up }
         requires may { SomePast (Stands P.policy D.tells self.old (D.seen disk.old)) (λ terms past. IsAmong taken.site terms.protocols) }
-        ensures answered { IfOk result (λ step. (terms : Terms) (past : CoordPast) → Stands P.policy D.tells self.old (D.seen disk.old) terms past → IsAmong taken.site terms.protocols
-            → Steps P.policy D.tells step self.new (D.seen disk.new) terms past (line_of terms past (reply_event tid taken))) }
-        ensures failed { IfErr result (λ why. (terms : Terms) (past : CoordPast) → Stands P.policy D.tells self.old (D.seen disk.old) terms past → IsAmong taken.site terms.protocols
-            → Fails P.policy D.tells why self.new (D.seen disk.new) terms past (reply_event tid taken)) }
+        ensures answered { IfOk result (StepsWhere P.policy D.tells self.old (D.seen disk.old) self.new (D.seen disk.new) (λ terms past. IsAmong taken.site terms.protocols) (reply_event tid taken)) }
+        ensures failed { IfErr result (FailsWhere P.policy D.tells self.old (D.seen disk.old) self.new (D.seen disk.new) (λ terms past. IsAmong taken.site terms.protocols) (reply_event tid taken)) }
         ensures cause { HasCauseOf StepErr.Disk (D.seen disk.old).faults (D.seen disk.new).faults result }
     {
         if !self
@@ -133,8 +129,8 @@ impl<P: TakePolicy> CoordCore<P> {
         requires told { IsTrue D.tells }
         requires up { self.old.store.standing ≡ Standing.Up }
         requires may { SomePast (Stands P.policy D.tells self.old (D.seen disk.old)) (CanStep (CoordEvent.Take site message)) }
-        ensures answered { IfOk result (λ step. Answers P.policy D.tells (CoordEvent.Take site message) self.old (D.seen disk.old) step self.new (D.seen disk.new)) }
-        ensures failed { IfErr result (λ why. Refuses P.policy D.tells (CoordEvent.Take site message) self.old (D.seen disk.old) why self.new (D.seen disk.new)) }
+        ensures answered { IfOk result (StepsOn P.policy D.tells self.old (D.seen disk.old) self.new (D.seen disk.new) (CoordEvent.Take site message)) }
+        ensures failed { IfErr result (FailsOn P.policy D.tells self.old (D.seen disk.old) self.new (D.seen disk.new) (CoordEvent.Take site message)) }
         ensures cause { HasCauseOf StepErr.Disk (D.seen disk.old).faults (D.seen disk.new).faults result }
     {
         match message {

@@ -2,7 +2,7 @@
 ghost use Rattle.std.specs.Prelude.{◌≡◌, IfErr, IfOk, IsTrue};
 ghost use Rattle.mdb_base.specs.Counts.{HasCauseOf};
 ghost use Rattle.coord_core.specs.Stands.{Stands};
-ghost use Rattle.coord_core.specs.Steps.{Answers, CanStep, Refuses, SomePast};
+ghost use Rattle.coord_core.specs.Steps.{CanStep, FailsOn, SomePast, StepsOn};
 
 use crate::coord::{CoordCore, silent};
 use actor_store::{Break, Standing, StepErr};
@@ -22,9 +22,9 @@ impl<P: TakePolicy> CoordCore<P> {
     ) -> Result<CoordStep, StepErr>
         requires told { IsTrue D.tells }
         requires up { self.old.store.standing ≡ Standing.Up }
-        requires may { SomePast (Stands P.policy D.tells self.old (D.seen disk.old)) (CanStep (CoordEvent.Check)) }
-        ensures answered { IfOk result (λ step. Answers P.policy D.tells (CoordEvent.Check) self.old (D.seen disk.old) step self.new (D.seen disk.new)) }
-        ensures failed { IfErr result (λ why. Refuses P.policy D.tells (CoordEvent.Check) self.old (D.seen disk.old) why self.new (D.seen disk.new)) }
+        requires may { SomePast (Stands P.policy D.tells self.old (D.seen disk.old)) (CanStep CoordEvent.Check) }
+        ensures answered { IfOk result (StepsOn P.policy D.tells self.old (D.seen disk.old) self.new (D.seen disk.new) CoordEvent.Check) }
+        ensures failed { IfErr result (FailsOn P.policy D.tells self.old (D.seen disk.old) self.new (D.seen disk.new) CoordEvent.Check) }
         ensures cause { HasCauseOf StepErr.Disk (D.seen disk.old).faults (D.seen disk.new).faults result }
     {
         let Ok(sum) = read_coord_sum(alloc, &self.protocols, self.store.records()) else {

@@ -12,9 +12,9 @@ ghost use Rattle.protocol_table.specs.Agreement.{IsKnownAs};
 ghost use Rattle.protocol_table.specs.Attempts.{known_of};
 ghost use Rattle.mdb_base.specs.declared.names.Tid.{Tid as TheTid};
 ghost use Rattle.ticket_graph.specs.Graph.{AreHeld, StandsFor};
-ghost use Rattle.actor_store.specs.Store.{is_up, trip_to};
+ghost use Rattle.actor_store.specs.Store.{is_up};
 ghost use Rattle.coord_core.specs.Stands.{Holds, IsEmptyDisk, Stands};
-ghost use Rattle.coord_core.specs.Steps.{Answers, CanStep, EachPast, Refuses, SomePast};
+ghost use Rattle.coord_core.specs.Steps.{CanStep, EachPast, FailsOn, SomePast, StepsOn};
 ghost use Rattle.coord_tables.specs.Waiting.{waiting};
 
 use actor_store::{Standing, StepErr, Store};
@@ -83,8 +83,8 @@ impl<P: TakePolicy> CoordCore<P> {
     ) -> Result<CoordStep, StepErr>
         requires told { IsTrue D.tells }
         requires may { SomePast (Stands P.policy D.tells self.old (D.seen disk.old)) (CanStep event) }
-        ensures answered { IfOk result (λ step. Answers P.policy D.tells event self.old (D.seen disk.old) step self.new (D.seen disk.new)) }
-        ensures failed { IfErr result (λ why. Refuses P.policy D.tells event self.old (D.seen disk.old) why self.new (D.seen disk.new)) }
+        ensures answered { IfOk result (StepsOn P.policy D.tells self.old (D.seen disk.old) self.new (D.seen disk.new) event) }
+        ensures failed { IfErr result (FailsOn P.policy D.tells self.old (D.seen disk.old) self.new (D.seen disk.new) event) }
         ensures cause { HasCauseOf StepErr.Disk (D.seen disk.old).faults (D.seen disk.new).faults result }
     {
         match self.store.standing {
@@ -180,8 +180,8 @@ impl<P: TakePolicy> CoordCore<P> {
         requires told { IsTrue D.tells }
         requires down { is_up self.old.store.standing ≡ false }
         requires may { SomePast (Stands P.policy D.tells self.old (D.seen disk.old)) (CanStep event) }
-        ensures answered { IfOk result (λ step. Answers P.policy D.tells event self.old (D.seen disk.old) step self.new (D.seen disk.new)) }
-        ensures failed { IfErr result (λ why. Refuses P.policy D.tells event self.old (D.seen disk.old) why self.new (D.seen disk.new)) }
+        ensures answered { IfOk result (StepsOn P.policy D.tells self.old (D.seen disk.old) self.new (D.seen disk.new) event) }
+        ensures failed { IfErr result (FailsOn P.policy D.tells self.old (D.seen disk.old) self.new (D.seen disk.new) event) }
         ensures cause { HasCauseOf StepErr.Disk (D.seen disk.old).faults (D.seen disk.new).faults result }
     {
         match event {
@@ -196,7 +196,7 @@ impl<P: TakePolicy> CoordCore<P> {
         requires told { IsTrue D.tells }
         requires up { self.old.store.standing ≡ Standing.Up }
         requires may { SomePast (Stands P.policy D.tells self.old (D.seen disk.old)) (CanStep (CoordEvent.Halt cut)) }
-        ensures answered { Answers P.policy D.tells (CoordEvent.Halt cut) self.old (D.seen disk.old) result self.new (D.seen disk.new) }
+        ensures answered { StepsOn P.policy D.tells self.old (D.seen disk.old) self.new (D.seen disk.new) (CoordEvent.Halt cut) result }
         ensures faults { (D.seen disk.new).faults ≡ (D.seen disk.old).faults }
     {
         let kept = self.store.stop(disk, cut);
@@ -205,7 +205,7 @@ impl<P: TakePolicy> CoordCore<P> {
 
     /// Sets a trip; one of no calls disarms.
     fn set_trip(&mut self, alloc: Global, calls: u32, cut: u64) -> CoordStep
-        ensures answered { (tells : Bool) (seen : Seen) → Answers P.policy tells (CoordEvent.Trip calls cut) self.old seen result self.new seen }
+        ensures answered { (tells : Bool) (seen : Seen) → StepsOn P.policy tells self.old seen self.new seen (CoordEvent.Trip calls cut) result }
     {
         self.store.set_trip(calls, cut);
         silent(alloc, Answer::Set)

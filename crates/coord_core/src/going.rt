@@ -1,12 +1,9 @@
 //! New attempts of global transactions.
-ghost use Rattle.std.specs.Prelude.{◌≡◌, Bool, None, IfOk, OnErr};
+ghost use Rattle.std.specs.Prelude.{◌≡◌, Bool, IfOk, OnErr};
 ghost use Rattle.journal_disk.specs.Disk.{Seen};
-ghost use Rattle.fed_rules.specs.CoordPast.{CoordPast};
-ghost use Rattle.coord_tables.specs.Attempts.{last_of};
 ghost use Rattle.coord_tables.specs.Beginning.{CanBegin};
-ghost use Rattle.coord_core.specs.Stands.{Holds, Stands, Steps};
-ghost use Rattle.coord_core.specs.Steps.{Answers, CanStep, Refuses, SomePast};
-ghost use Rattle.coord_tables.specs.Terms.{Terms, line_of};
+ghost use Rattle.coord_core.specs.Stands.{Holds, Stands};
+ghost use Rattle.coord_core.specs.Steps.{CanStep, EachPast, FailsOn, SomePast, StepsOn, StepsWhere};
 
 use crate::coord::{CoordCore, silent};
 use actor_store::{Standing, StepErr};
@@ -21,9 +18,8 @@ impl<P: TakePolicy> CoordCore<P> {
     fn begin(&mut self, alloc: Global, tid: Tid, program: Program) -> Result<CoordStep, Memory>
         requires up { self.old.store.standing ≡ Standing.Up }
         requires may { SomePast (Holds P.policy self.old) (CanBegin tid program) }
-        ensures answered { IfOk result (λ step. (tells : Bool) (seen : Seen) (terms : Terms) (past : CoordPast) → Stands P.policy tells self.old seen terms past
-            → CanBegin tid program terms past → Steps P.policy tells step self.new seen terms past (line_of terms past (CoordEvent.Go tid program))) }
-        ensures memory { OnErr result ((tells : Bool) (seen : Seen) (terms : Terms) (past : CoordPast) → Stands P.policy tells self.old seen terms past → Stands P.policy tells self.new seen terms past) }
+        ensures answered { IfOk result (λ step. (tells : Bool) (seen : Seen) → StepsWhere P.policy tells self.old seen self.new seen (CanBegin tid program) (CoordEvent.Go tid program) step) }
+        ensures memory { OnErr result ((tells : Bool) (seen : Seen) → EachPast (Stands P.policy tells self.old seen) (Stands P.policy tells self.new seen)) }
     {
         let sites = sites_of(program.steps());
         let members = participants_in(alloc, &self.protocols, program.steps())?;
@@ -49,8 +45,8 @@ impl<P: TakePolicy> CoordCore<P> {
     ) -> Result<CoordStep, Memory>
         requires up { self.old.store.standing ≡ Standing.Up }
         requires may { SomePast (Holds P.policy self.old) (CanStep (CoordEvent.Go tid program)) }
-        ensures answered { IfOk result (λ step. (tells : Bool) (seen : Seen) → Answers P.policy tells (CoordEvent.Go tid program) self.old seen step self.new seen) }
-        ensures memory { OnErr result ((tells : Bool) (seen : Seen) → Refuses P.policy tells (CoordEvent.Go tid program) self.old seen StepErr.Memory self.new seen) }
+        ensures answered { IfOk result (λ step. (tells : Bool) (seen : Seen) → StepsOn P.policy tells self.old seen self.new seen (CoordEvent.Go tid program) step) }
+        ensures memory { OnErr result ((tells : Bool) (seen : Seen) → FailsOn P.policy tells self.old seen self.new seen (CoordEvent.Go tid program) StepErr.Memory) }
     {
         match self.tables.committed.last_of(tid.tx) {
             Some(committed) => Ok(silent(alloc, Answer::Committed(committed))),

@@ -4,11 +4,10 @@ ghost use Rattle.mdb_base.specs.Counts.{HasCauseOf};
 ghost use Rattle.mdb_base.specs.Rising.{IsRising};
 ghost use Rattle.presumptions.specs.declared.Participant.{Participant as TheParticipant};
 ghost use Rattle.fed_rules.specs.Coord.{decide_to as rules_decide_to, missing as rules_missing};
-ghost use Rattle.fed_rules.specs.CoordPast.{CoordPast, Decided, is_open, standing};
+ghost use Rattle.fed_rules.specs.CoordPast.{Decided, is_open, standing};
 ghost use Rattle.protocol_table.specs.Attempts.{lacks_ack, missing, participant_of};
-ghost use Rattle.coord_core.specs.Stands.{Fails, Holds, Stands, Steps};
-ghost use Rattle.coord_core.specs.Steps.{Answers, CanStep, EachPast, Refuses, SomePast};
-ghost use Rattle.coord_tables.specs.Terms.{Terms, line_of};
+ghost use Rattle.coord_core.specs.Stands.{Holds, Stands};
+ghost use Rattle.coord_core.specs.Steps.{CanStep, EachPast, FailsOn, FailsWhere, SomePast, StepsOn, StepsWhere};
 
 use crate::coord::{CoordCore, silent};
 use crate::sending::let_through;
@@ -78,10 +77,8 @@ impl<P: TakePolicy> CoordCore<P> {
         requires told { IsTrue D.tells }
         requires up { self.old.store.standing ≡ Standing.Up }
         requires may { SomePast (Stands P.policy D.tells self.old (D.seen disk.old)) (λ terms past. is_open past tid ≡ true) }
-        ensures answered { IfOk result (λ step. (terms : Terms) (past : CoordPast) → Stands P.policy D.tells self.old (D.seen disk.old) terms past → is_open past tid ≡ true
-            → Steps P.policy D.tells step self.new (D.seen disk.new) terms past (line_of terms past (CoordEvent.Again tid))) }
-        ensures failed { IfErr result (λ why. (terms : Terms) (past : CoordPast) → Stands P.policy D.tells self.old (D.seen disk.old) terms past → is_open past tid ≡ true
-            → Fails P.policy D.tells why self.new (D.seen disk.new) terms past (CoordEvent.Again tid)) }
+        ensures answered { IfOk result (StepsWhere P.policy D.tells self.old (D.seen disk.old) self.new (D.seen disk.new) (λ terms past. is_open past tid ≡ true) (CoordEvent.Again tid)) }
+        ensures failed { IfErr result (FailsWhere P.policy D.tells self.old (D.seen disk.old) self.new (D.seen disk.new) (λ terms past. is_open past tid ≡ true) (CoordEvent.Again tid)) }
         ensures cause { HasCauseOf StepErr.Disk (D.seen disk.old).faults (D.seen disk.new).faults result }
     {
         let Ok(dues) = self.tables.exec.outstanding(alloc, tid) else {
@@ -110,8 +107,8 @@ impl<P: TakePolicy> CoordCore<P> {
         requires told { IsTrue D.tells }
         requires up { self.old.store.standing ≡ Standing.Up }
         requires may { SomePast (Stands P.policy D.tells self.old (D.seen disk.old)) (CanStep (CoordEvent.Again tid)) }
-        ensures answered { IfOk result (λ step. Answers P.policy D.tells (CoordEvent.Again tid) self.old (D.seen disk.old) step self.new (D.seen disk.new)) }
-        ensures failed { IfErr result (λ why. Refuses P.policy D.tells (CoordEvent.Again tid) self.old (D.seen disk.old) why self.new (D.seen disk.new)) }
+        ensures answered { IfOk result (StepsOn P.policy D.tells self.old (D.seen disk.old) self.new (D.seen disk.new) (CoordEvent.Again tid)) }
+        ensures failed { IfErr result (FailsOn P.policy D.tells self.old (D.seen disk.old) self.new (D.seen disk.new) (CoordEvent.Again tid)) }
         ensures cause { HasCauseOf StepErr.Disk (D.seen disk.old).faults (D.seen disk.new).faults result }
     {
         match self.tables.known.answer(tid, Protocol::Nothing) {

@@ -6,7 +6,7 @@ ghost use Rattle.fed_rules.specs.Coord.{may_take as rules_may_take};
 ghost use Rattle.fed_rules.specs.CoordPast.{CoordPast, is_open};
 ghost use Rattle.coord_tables.specs.Sending.{HoldsTheSame, IsSending, after_taken, passed, says_sent};
 ghost use Rattle.coord_core.specs.Stands.{Fails, Stands, Steps};
-ghost use Rattle.coord_core.specs.Steps.{Answers, CanStep, EachPast, Refuses, SomePast};
+ghost use Rattle.coord_core.specs.Steps.{EachPast, SomePast};
 ghost use Rattle.coord_tables.specs.Terms.{Terms, line_of};
 
 use crate::coord::{CoordCore, silent};

@@ -3,7 +3,7 @@ ghost use Rattle.std.specs.Prelude.{◌≡◌, false, IfErr, IfOk, IsTrue};
 ghost use Rattle.mdb_base.specs.Counts.{HasCauseOf};
 ghost use Rattle.actor_store.specs.Store.{is_up};
 ghost use Rattle.coord_core.specs.Stands.{Stands};
-ghost use Rattle.coord_core.specs.Steps.{Answers, CanStep, Refuses, SomePast};
+ghost use Rattle.coord_core.specs.Steps.{CanStep, FailsOn, SomePast, StepsOn};
 
 use crate::coord::{CoordCore, silent};
 use actor_store::{Break, StepErr};
@@ -23,9 +23,9 @@ impl<P: TakePolicy> CoordCore<P> {
     ) -> Result<CoordStep, StepErr>
         requires told { IsTrue D.tells }
         requires down { is_up self.old.store.standing ≡ false }
-        requires may { SomePast (Stands P.policy D.tells self.old (D.seen disk.old)) (CanStep (CoordEvent.Back)) }
-        ensures answered { IfOk result (λ step. Answers P.policy D.tells (CoordEvent.Back) self.old (D.seen disk.old) step self.new (D.seen disk.new)) }
-        ensures failed { IfErr result (λ why. Refuses P.policy D.tells (CoordEvent.Back) self.old (D.seen disk.old) why self.new (D.seen disk.new)) }
+        requires may { SomePast (Stands P.policy D.tells self.old (D.seen disk.old)) (CanStep CoordEvent.Back) }
+        ensures answered { IfOk result (StepsOn P.policy D.tells self.old (D.seen disk.old) self.new (D.seen disk.new) CoordEvent.Back) }
+        ensures failed { IfErr result (FailsOn P.policy D.tells self.old (D.seen disk.old) self.new (D.seen disk.new) CoordEvent.Back) }
         ensures cause { HasCauseOf StepErr.Disk (D.seen disk.old).faults (D.seen disk.new).faults result }
     {
         match self.store.reload(alloc, disk) {
@@ -42,9 +42,9 @@ impl<P: TakePolicy> CoordCore<P> {
     fn come_up<D: Disk>(&mut self, alloc: Global, disk: &mut D) -> Result<CoordStep, StepErr>
         requires told { IsTrue D.tells }
         requires down { is_up self.old.store.standing ≡ false }
-        requires may { SomePast (Stands P.policy D.tells self.old (D.seen disk.old)) (CanStep (CoordEvent.Back)) }
-        ensures answered { IfOk result (λ step. Answers P.policy D.tells (CoordEvent.Back) self.old (D.seen disk.old) step self.new (D.seen disk.new)) }
-        ensures failed { IfErr result (λ why. Refuses P.policy D.tells (CoordEvent.Back) self.old (D.seen disk.old) why self.new (D.seen disk.new)) }
+        requires may { SomePast (Stands P.policy D.tells self.old (D.seen disk.old)) (CanStep CoordEvent.Back) }
+        ensures answered { IfOk result (StepsOn P.policy D.tells self.old (D.seen disk.old) self.new (D.seen disk.new) CoordEvent.Back) }
+        ensures failed { IfErr result (FailsOn P.policy D.tells self.old (D.seen disk.old) self.new (D.seen disk.new) CoordEvent.Back) }
         ensures cause { HasCauseOf StepErr.Disk (D.seen disk.old).faults (D.seen disk.new).faults result }
     {
         let Ok(sum) = read_coord_sum(alloc, &self.protocols, self.store.records()) else {

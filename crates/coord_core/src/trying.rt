@@ -1,5 +1,5 @@
 //! Whether an attempt may be committed beside the committed ones.
-ghost use Rattle.std.specs.Prelude.{◌≡◌, ◌∷◌, IfOk, OnErr};
+ghost use Rattle.std.specs.Prelude.{◌≡◌, IfOk, OnErr};
 ghost use Rattle.fed_rules.specs.CoordPast.{records};
 ghost use Rattle.fed_rules.specs.CoordRecords.{commits};
 ghost use Rattle.ticket_graph.specs.Graph.{IsVerdict, StandsFor, attempts_after};

@@ -1,5 +1,5 @@
 //! Votes of sites.
-ghost use Rattle.std.specs.Prelude.{Bool, ◌≡◌, true, None, Some, IfErr, IfOk, IfSome, IsSome, IsTrue, OnOk};
+ghost use Rattle.std.specs.Prelude.{Bool, ◌≡◌, None, Some, IfErr, IfOk, IfSome, IsSome, IsTrue, OnOk};
 ghost use Rattle.mdb_base.specs.Counts.{HasCauseOf};
 ghost use Rattle.journal_disk.specs.Disk.{Seen};
 ghost use Rattle.journal_disk.specs.Frames.{IsPayload};
@@ -8,8 +8,8 @@ ghost use Rattle.coord_journal.specs.Spelling.{spelling};
 ghost use Rattle.actor_store.specs.Store.{SomeKeptBehind};
 ghost use Rattle.fed_rules.specs.declared.messages.FromSite.TheVariants as From;
 ghost use Rattle.fed_rules.specs.CoordPast.{CoordPast};
-ghost use Rattle.coord_core.specs.Stands.{Fails, Stands, Steps};
-ghost use Rattle.coord_core.specs.Steps.{Answers, CanStep, EachPast, Refuses, SomePast};
+ghost use Rattle.coord_core.specs.Stands.{Stands, Steps};
+ghost use Rattle.coord_core.specs.Steps.{CanStep, EachPast, FailsOn, FailsWhere, SomePast, StepsOn, StepsWhere};
 ghost use Rattle.coord_core.specs.Store.{KeepsBehind};
 ghost use Rattle.coord_tables.specs.Terms.{Terms, line_of};
 ghost use Rattle.coord_tables.specs.Trees.{entry_of};
@@ -81,12 +81,8 @@ impl<P: TakePolicy> CoordCore<P> {
         requires told { IsTrue D.tells }
         requires up { self.old.store.standing ≡ Standing.Up }
         requires may { SomePast (Stands P.policy D.tells self.old (D.seen disk.old)) (IsLastVote site tid ticket tickets.now) }
-        ensures answered { IfOk result (λ step. (terms : Terms) (past : CoordPast) → Stands P.policy D.tells self.old (D.seen disk.old) terms past
-            → IsLastVote site tid ticket tickets.now terms past
-            → Steps P.policy D.tells step self.new (D.seen disk.new) terms past (line_of terms past (vote_event site tid (Some ticket)))) }
-        ensures failed { IfErr result (λ why. (terms : Terms) (past : CoordPast) → Stands P.policy D.tells self.old (D.seen disk.old) terms past
-            → IsLastVote site tid ticket tickets.now terms past
-            → Fails P.policy D.tells why self.new (D.seen disk.new) terms past (vote_event site tid (Some ticket))) }
+        ensures answered { IfOk result (StepsWhere P.policy D.tells self.old (D.seen disk.old) self.new (D.seen disk.new) (IsLastVote site tid ticket tickets.now) (vote_event site tid (Some ticket))) }
+        ensures failed { IfErr result (FailsWhere P.policy D.tells self.old (D.seen disk.old) self.new (D.seen disk.new) (IsLastVote site tid ticket tickets.now) (vote_event site tid (Some ticket))) }
         ensures cause { HasCauseOf StepErr.Disk (D.seen disk.old).faults (D.seen disk.new).faults result }
     {
         let Ok(sends) = self.tables.decisions(alloc, tid, Decision::Commit) else {
@@ -131,10 +127,8 @@ impl<P: TakePolicy> CoordCore<P> {
         requires told { IsTrue D.tells }
         requires up { self.old.store.standing ≡ Standing.Up }
         requires may { SomePast (Stands P.policy D.tells self.old (D.seen disk.old)) (CountsVote site tid) }
-        ensures answered { IfOk result (λ step. (terms : Terms) (past : CoordPast) → Stands P.policy D.tells self.old (D.seen disk.old) terms past → CountsVote site tid terms past
-            → Steps P.policy D.tells step self.new (D.seen disk.new) terms past (line_of terms past (vote_event site tid (Some ticket)))) }
-        ensures failed { IfErr result (λ why. (terms : Terms) (past : CoordPast) → Stands P.policy D.tells self.old (D.seen disk.old) terms past → CountsVote site tid terms past
-            → Fails P.policy D.tells why self.new (D.seen disk.new) terms past (vote_event site tid (Some ticket))) }
+        ensures answered { IfOk result (StepsWhere P.policy D.tells self.old (D.seen disk.old) self.new (D.seen disk.new) (CountsVote site tid) (vote_event site tid (Some ticket))) }
+        ensures failed { IfErr result (FailsWhere P.policy D.tells self.old (D.seen disk.old) self.new (D.seen disk.new) (CountsVote site tid) (vote_event site tid (Some ticket))) }
         ensures cause { HasCauseOf StepErr.Disk (D.seen disk.old).faults (D.seen disk.new).faults result }
     {
         let Ok(last) = self.tables.last_tickets(alloc, site, tid, ticket) else {
@@ -159,8 +153,8 @@ impl<P: TakePolicy> CoordCore<P> {
         requires told { IsTrue D.tells }
         requires up { self.old.store.standing ≡ Standing.Up }
         requires may { SomePast (Stands P.policy D.tells self.old (D.seen disk.old)) (CanStep (CoordEvent.Take site (From.Vote tid yes))) }
-        ensures answered { IfOk result (λ step. Answers P.policy D.tells (CoordEvent.Take site (From.Vote tid yes)) self.old (D.seen disk.old) step self.new (D.seen disk.new)) }
-        ensures failed { IfErr result (λ why. Refuses P.policy D.tells (CoordEvent.Take site (From.Vote tid yes)) self.old (D.seen disk.old) why self.new (D.seen disk.new)) }
+        ensures answered { IfOk result (StepsOn P.policy D.tells self.old (D.seen disk.old) self.new (D.seen disk.new) (CoordEvent.Take site (From.Vote tid yes))) }
+        ensures failed { IfErr result (FailsOn P.policy D.tells self.old (D.seen disk.old) self.new (D.seen disk.new) (CoordEvent.Take site (From.Vote tid yes))) }
         ensures cause { HasCauseOf StepErr.Disk (D.seen disk.old).faults (D.seen disk.new).faults result }
     {
         if !self.tables.exec.awaits_vote(tid, site) {

@@ -9,7 +9,9 @@ use Rattle.fed_rules.specs.SitePast.{SitePast}
 use Rattle.fed_rules.specs.SiteRecords.{Home}
 use Rattle.fed_rules.specs.Story.{place_from}
 use Rattle.actor_store.specs.declared.errors.StepErr.{StepErr}
-use Rattle.local_dbms.specs.Stands.{Fails, OwnPrograms, sends_of}
+use Rattle.local_dbms.specs.declared.asks.SiteAsk.{SiteAsk}
+use Rattle.local_dbms.specs.Asks.{CanAsk, site_request}
+use Rattle.local_dbms.specs.Stands.{Each_site, Fails, OwnPrograms, sends_of}
 use Rattle.session_report.specs.declared.marks.Mark.{Mark}
 use Rattle.session_report.specs.declared.marks.Marks.{Marks}
 use Rattle.session_report.specs.Marks.{kept_marks}
@@ -39,3 +41,17 @@ pub record PartFails (K : Home → OwnPrograms → SitePast → Type 0) (why : S
   pub marks : first ++ own.kept.items ≡ kept_marks home past
   pub to : traffic.to.items ≡ sent
   pub from : traffic.from.items ≡ back
+
+-- what comes of what is asked: the system stood for this before, with these marks and messages, and stands for that after, with those
+module _ (before : Home → OwnPrograms → SitePast → Type 0) (own : Marks) (traffic : Traffic) (after : Home → OwnPrograms → SitePast → Type 0) (kept : Marks) (carried : Traffic) (ask : SiteAsk) where
+  -- of each past for which it stood, where this may be asked, the request is answered
+  abbrev pub ServesOn : Heard → Type 0
+  ServesOn heard = Each_site before (λ home programs past. CanAsk ask home programs past
+      → (first : List Mark) (to : List ToSite) (from : List FromSite) → PartAt before own traffic home programs past first to from
+      → PartHears after heard kept carried home programs past first to from (site_request ask home programs past))
+
+  -- of each such past it isn't, for this reason
+  abbrev pub FailsOn : StepErr → Type 0
+  FailsOn why = Each_site before (λ home programs past. CanAsk ask home programs past
+      → (first : List Mark) (to : List ToSite) (from : List FromSite) → PartAt before own traffic home programs past first to from
+      → PartFails after why kept carried home programs past first to from (site_request ask home programs past))

@@ -140,6 +140,10 @@ pub record SomeStory {S : Type 0} (K : S → List Command → Type 0) (P : S →
 abbrev pub EachStory : {S : Type 0} → (S → List Command → Type 0) → (S → List Command → Type 0) → Type 0
 EachStory {S} K P = (session : S) (commands : List Command) → K session commands → P session commands
 
+-- and of every one where this holds too
+abbrev pub EachWhere : {S : Type 0} → (S → List Command → Type 0) → (S → List Command → Type 0) → (S → List Command → Type 0) → Type 0
+EachWhere {S} K Can P = (session : S) (commands : List Command) → K session commands → Can session commands → P session commands
+
 -- any commands
 abbrev pub AnyStory : {S : Type 0} → S → List Command → Type 0
 AnyStory session commands = Unit {0}

@@ -4,7 +4,7 @@ ghost use Rattle.fed_rules.specs.Resumed.{begun as begun_in};
 ghost use Rattle.fed_rules.specs.Story.{story_in};
 ghost use Rattle.fed_world.specs.Reporting as reporting;
 ghost use Rattle.fed_world.specs.Beginnings.{GoesOn};
-ghost use Rattle.fed_world.specs.Worlds.{AnyStory, EachStory, Recalls, Rests, SomeStory};
+ghost use Rattle.fed_world.specs.Worlds.{AnyStory, EachWhere, Recalls, Rests, SomeStory};
 
 use crate::world::World;
 use fed_rules::{AllReads, AllRows, Outcome, Outcomes, Report};
@@ -31,7 +31,7 @@ fn decision_given(committed: Option<Tid>, tid: Tid) -> Decision
 impl World {
     /// How an attempt ended, in a session at rest.
     fn outcome_of(&self, tid: Tid) -> Outcome
-        ensures { EachStory (Recalls self.now) (λ session commands. Rests session commands → result ≡ reporting.outcome_at (story_in session commands) tid) }
+        ensures { EachWhere (Recalls self.now) Rests (λ session commands. result ≡ reporting.outcome_at (story_in session commands) tid) }
     {
         let committed = self.cores.coordinator.core().committed(tid.tx);
         Outcome {
@@ -42,8 +42,7 @@ impl World {
 
     /// How these attempts ended, in a session at rest.
     fn outcomes_of(&self, alloc: Global, begun: &[Tid]) -> Result<Vec<Outcome>, Memory>
-        ensures { IfOk result (λ outcomes. EachStory (Recalls self.now) (λ session commands. Rests session commands
-            → outcomes.items ≡ map (reporting.outcome_at (story_in session commands)) begun.now)) }
+        ensures { IfOk result (λ outcomes. EachWhere (Recalls self.now) Rests (λ session commands. outcomes.items ≡ map (reporting.outcome_at (story_in session commands)) begun.now)) }
     {
         let mut outcomes = Vec::new(alloc);
         for tid in begun {
@@ -56,8 +55,7 @@ impl World {
     /// The report of a session at rest that goes on from disks, of which a record names these attempts.
     pub(crate) fn found_report(&self, alloc: Global, begun: &[Tid]) -> Result<Report, Memory>
         requires { SomeStory (Recalls self.now) AnyStory }
-        ensures { IfOk result (λ report. EachStory (Recalls self.now) (λ session commands. Rests session commands → begun.now ≡ begun_in session.found
-            → GoesOn session → report ≡ reporting.found_report session.found (story_in session commands))) }
+        ensures { IfOk result (λ report. EachWhere (Recalls self.now) Rests (λ session commands. begun.now ≡ begun_in session.found → GoesOn session → report ≡ reporting.found_report session.found (story_in session commands))) }
     {
         let outcomes = self.outcomes_of(alloc, begun)?;
         let forgotten = Vec::from_slice(alloc, begun)?;

@@ -1,7 +1,7 @@
 //! How a command comes to its actor.
 ghost use Rattle.std.specs.Prelude.{◌≡◌, IsTrue, IfOk, IfErr, map};
 ghost use Rattle.fed_world.specs.Faults.{CountsTell};
-ghost use Rattle.fed_world.specs.Worlds.{EachCoordAsk, EachSiteAsk, EachStory, HasRoom, IsHeard, IsUnheard, KeepsLines, SomeCoordAsk, SomeSiteAsk, SomeStory, Stands, error_of};
+ghost use Rattle.fed_world.specs.Worlds.{EachCoordAsk, EachSiteAsk, EachWhere, HasRoom, IsHeard, IsUnheard, KeepsLines, SomeCoordAsk, SomeSiteAsk, SomeStory, Stands, error_of};
 
 use crate::asks::Asked;
 use crate::errors::WorldErr;
@@ -101,10 +101,8 @@ impl World {
     ) -> Result<Heard, WorldErr>
         requires told { IsTrue D.tells }
         requires stood { SomeStory (Stands D.tells self.old (map D.seen disks.old.items)) HasRoom }
-        ensures heard { IfOk result (λ heard. EachStory (Stands D.tells self.old (map D.seen disks.old.items)) (λ session commands. HasRoom session commands
-            → IsHeard D.tells self.new (map D.seen disks.new.items) heard command session commands)) }
-        ensures failed { IfErr result (λ why. EachStory (Stands D.tells self.old (map D.seen disks.old.items)) (λ session commands. HasRoom session commands
-            → IsUnheard D.tells why self.new (map D.seen disks.new.items) command session commands)) }
+        ensures heard { IfOk result (λ heard. EachWhere (Stands D.tells self.old (map D.seen disks.old.items)) HasRoom (IsHeard D.tells self.new (map D.seen disks.new.items) heard command)) }
+        ensures failed { IfErr result (λ why. EachWhere (Stands D.tells self.old (map D.seen disks.old.items)) HasRoom (IsUnheard D.tells why self.new (map D.seen disks.new.items) command)) }
         ensures keeps { KeepsLines self.old self.new }
         ensures cause { CountsTell result (map D.seen disks.old.items) (map D.seen disks.new.items) }
     {

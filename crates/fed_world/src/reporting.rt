@@ -7,7 +7,7 @@ ghost use Rattle.fed_rules.specs.Sessions.{fresh};
 ghost use Rattle.fed_rules.specs.Story.{story_in, story_of};
 ghost use Rattle.session_report.specs.InOrder.{IsReportIn};
 ghost use Rattle.fed_world.specs.Reporting as reporting;
-ghost use Rattle.fed_world.specs.Worlds.{AnyStory, EachStory, Recalls, Rests, SomeStory};
+ghost use Rattle.fed_world.specs.Worlds.{AnyStory, EachStory, EachWhere, Recalls, Rests, SomeStory};
 
 use crate::world::World;
 use fed_rules::Report;
@@ -20,8 +20,7 @@ impl World {
     fn rows_at(&self, alloc: Global, place: usize) -> Result<SiteRows, Memory>
         requires cores { place < length self.now.cores.sites.items.items }
         requires channels { place < length self.now.traffic.items }
-        ensures { IfOk result (λ rows. EachStory (Recalls self.now) (λ session commands. Rests session commands
-            → (site : TheSite) → slice_get (sites session.plan) place ≡ Some site → rows ≡ reporting.rows_at session.plan (story_in session commands) site)) }
+        ensures { IfOk result (λ rows. EachWhere (Recalls self.now) Rests (λ session commands. (site : TheSite) → slice_get (sites session.plan) place ≡ Some site → rows ≡ reporting.rows_at session.plan (story_in session commands) site)) }
     {
         let rows = self.cores.sites.at(place).core().rows(alloc)?;
         Ok(SiteRows {
@@ -33,8 +32,7 @@ impl World {
     /// The rows of each site, by rising site, in a session at rest.
     pub(crate) fn tables(&self, alloc: Global) -> Result<Vec<SiteRows>, Memory>
         requires { SomeStory (Recalls self.now) AnyStory }
-        ensures { IfOk result (λ rows. EachStory (Recalls self.now) (λ session commands. Rests session commands
-            → rows.items ≡ tables session.plan (story_in session commands))) }
+        ensures { IfOk result (λ rows. EachWhere (Recalls self.now) Rests (λ session commands. rows.items ≡ tables session.plan (story_in session commands))) }
     {
         let mut tables = Vec::new(alloc);
         for place in 0..self.traffic.len() {
@@ -56,7 +54,7 @@ impl World {
     /// committed before.
     pub fn report(&self, alloc: Global) -> Result<Report, Memory>
         requires { SomeStory (Recalls self.now) Rests }
-        ensures reported { IfOk result (λ report. EachStory (Recalls self.now) (λ session commands. Rests session commands → report ≡ reporting.report_for session (story_in session commands))) }
+        ensures reported { IfOk result (λ report. EachWhere (Recalls self.now) Rests (λ session commands. report ≡ reporting.report_for session (story_in session commands))) }
         ensures fresh { IfOk result (λ report. EachStory (λ scenario. Recalls self.now (fresh scenario)) (λ scenario commands. report ≡ report_of scenario (story_of scenario commands))) }
     {
         match &self.begun {

@@ -1,15 +1,12 @@
 //! What a site hears, with what the world keeps of it.
-ghost use Rattle.std.specs.Prelude.{◌<◌, ◌^◌, ◌≡◌, ◌++◌, List, IsSome, IsTrue, IfOk, IfErr, OnOk, length, option_to_list, true, vec_len, vec_capacity};
+ghost use Rattle.std.specs.Prelude.{◌<◌, ◌^◌, ◌≡◌, ◌++◌, IsSome, IsTrue, IfOk, IfErr, OnOk, length, option_to_list, true, vec_len, vec_capacity};
 ghost use Rattle.mdb_base.specs.Counts.{HasCauseOf};
 ghost use Rattle.any_engine.specs.Stands as Engines;
-ghost use Rattle.fed_rules.specs.declared.messages.FromSite.{FromSite as TheFrom};
-ghost use Rattle.fed_rules.specs.declared.messages.ToSite.{ToSite as TheTo};
 ghost use Rattle.fed_rules.specs.Story.{place_from};
-ghost use Rattle.local_dbms.specs.Asks.{CanAsk, can_send, site_request};
+ghost use Rattle.local_dbms.specs.Asks.{CanAsk, can_send};
 ghost use Rattle.local_dbms.specs.Stands as Dbms;
-ghost use Rattle.local_dbms.specs.Stands.{Each_site, Some_site};
-ghost use Rattle.session_report.specs.declared.marks.Mark.{Mark as TheMark};
-ghost use Rattle.fed_world.specs.SeatParts.{PartAt, PartFails, PartHears};
+ghost use Rattle.local_dbms.specs.Stands.{Some_site};
+ghost use Rattle.fed_world.specs.SeatParts.{FailsOn, ServesOn};
 
 use crate::heard::Heard;
 use any_engine::AnyEngine;
@@ -75,12 +72,8 @@ pub fn tell_seat<D: Disk>(
     requires told { IsTrue D.tells }
     requires stood { Some_site (Dbms.Stands Engines.Stands D.tells dbms.old (D.seen disk.old)) (CanAsk ask) }
     requires few { length traffic.old.from.items < 2 ^ 32 }
-    ensures served { IfOk result (λ heard. Each_site (Dbms.Stands Engines.Stands D.tells dbms.old (D.seen disk.old)) (λ home programs past. CanAsk ask home programs past
-        → (first : List TheMark) (to : List TheTo) (from : List TheFrom) → PartAt (Dbms.Stands Engines.Stands D.tells dbms.old (D.seen disk.old)) marks.old traffic.old home programs past first to from
-        → PartHears (Dbms.Stands Engines.Stands D.tells dbms.new (D.seen disk.new)) heard marks.new traffic.new home programs past first to from (site_request ask home programs past))) }
-    ensures failed { IfErr result (λ why. Each_site (Dbms.Stands Engines.Stands D.tells dbms.old (D.seen disk.old)) (λ home programs past. CanAsk ask home programs past
-        → (first : List TheMark) (to : List TheTo) (from : List TheFrom) → PartAt (Dbms.Stands Engines.Stands D.tells dbms.old (D.seen disk.old)) marks.old traffic.old home programs past first to from
-        → PartFails (Dbms.Stands Engines.Stands D.tells dbms.new (D.seen disk.new)) why marks.new traffic.new home programs past first to from (site_request ask home programs past))) }
+    ensures served { IfOk result (ServesOn (Dbms.Stands Engines.Stands D.tells dbms.old (D.seen disk.old)) marks.old traffic.old (Dbms.Stands Engines.Stands D.tells dbms.new (D.seen disk.new)) marks.new traffic.new ask) }
+    ensures failed { IfErr result (FailsOn (Dbms.Stands Engines.Stands D.tells dbms.old (D.seen disk.old)) marks.old traffic.old (Dbms.Stands Engines.Stands D.tells dbms.new (D.seen disk.new)) marks.new traffic.new ask) }
     ensures cause { HasCauseOf StepErr.Disk (D.seen disk.old).faults (D.seen disk.new).faults result }
 {
     let Ok(()) = make_room(&mut traffic.from, ask) else {

@@ -1,11 +1,10 @@
 //! How a world is made: its sites are set up on their disks, by rising site.
-ghost use Rattle.std.specs.Prelude.{◌≡◌, ◌≤◌, [], IfOk, IfErr, IsErrOf, IsTrue, Some, length, map};
+ghost use Rattle.std.specs.Prelude.{◌≡◌, [], IfOk, IfErr, IsErrOf, IsTrue, Some, length, map};
 ghost use Rattle.mdb_base.specs.Counts.{HasCauseOf};
-ghost use Rattle.mdb_base.specs.declared.names.SiteId.{SiteId as TheSite};
 ghost use Rattle.any_engine.specs.Stands as Engines;
 ghost use Rattle.fed_rules.specs.Disk.{empty_disk};
 ghost use Rattle.fed_rules.specs.Plans.{IsScenario};
-ghost use Rattle.fed_rules.specs.Scenarios.{home_of, protocols, sites};
+ghost use Rattle.fed_rules.specs.Scenarios.{home_of, sites};
 ghost use Rattle.fed_rules.specs.Sessions.{fresh};
 ghost use Rattle.fed_rules.specs.SitePast.{set_up_calls};
 ghost use Rattle.fed_rules.specs.SiteRecords.{Home};

@@ -2,7 +2,7 @@
 ghost use Rattle.std.specs.Prelude.{◌≡◌, ◌∷◌, Bool, IfErr, List, OnErr, OnOk, IsTrue, map};
 ghost use Rattle.journal_disk.specs.Disk.{Seen};
 ghost use Rattle.fed_world.specs.Faults.{CountsTell};
-ghost use Rattle.fed_world.specs.Worlds.{AddsLine, EachStory, FailsAt, HasLineRoom, HasRoom, IsSameWorld, SomeStory, Stands, lines_of};
+ghost use Rattle.fed_world.specs.Worlds.{AddsLine, EachStory, EachWhere, FailsAt, HasLineRoom, HasRoom, IsSameWorld, SomeStory, Stands, lines_of};
 
 use crate::cores::Cores;
 use crate::errors::WorldErr;
@@ -46,10 +46,8 @@ impl World {
     ) -> Result<(), WorldErr>
         requires told { IsTrue D.tells }
         requires stood { SomeStory (Stands D.tells self.old (map D.seen disks.old.items)) HasRoom }
-        ensures applied { OnOk result (EachStory (Stands D.tells self.old (map D.seen disks.old.items))
-            (λ session commands. HasRoom session commands → Stands D.tells self.new (map D.seen disks.new.items) session (command ∷ commands))) }
-        ensures failed { IfErr result (λ why. EachStory (Stands D.tells self.old (map D.seen disks.old.items))
-            (λ session commands. HasRoom session commands → FailsAt D.tells why self.new (map D.seen disks.new.items) command session commands)) }
+        ensures applied { OnOk result (EachWhere (Stands D.tells self.old (map D.seen disks.old.items)) HasRoom (λ session commands. Stands D.tells self.new (map D.seen disks.new.items) session (command ∷ commands))) }
+        ensures failed { IfErr result (λ why. EachWhere (Stands D.tells self.old (map D.seen disks.old.items)) HasRoom (FailsAt D.tells why self.new (map D.seen disks.new.items) command)) }
         ensures added { OnOk result (AddsLine self.old self.new command) }
         ensures kept { OnErr result (lines_of self.new ≡ lines_of self.old) }
         ensures cause { CountsTell result (map D.seen disks.old.items) (map D.seen disks.new.items) }

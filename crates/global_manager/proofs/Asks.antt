@@ -9,7 +9,7 @@ use Rattle.fed_rules.specs.Requests.{Request}
 use Rattle.journal_disk.specs.Disk.{Seen}
 use Rattle.actor_store.specs.declared.errors.StepErr.{StepErr}
 use Rattle.coord_core.specs.declared.coord.CoordCore.{CoordCore}
-use Rattle.coord_core.specs.Steps.{Answers, Refuses}
+use Rattle.coord_core.specs.Steps.{FailsOn, StepsOn}
 use Rattle.coord_tables.specs.Terms.{Terms}
 use Rattle.global_manager.specs.declared.asks.CoordAsk.{CoordAsk}
 use Rattle.global_manager.specs.declared.manager.GlobalManager.{GlobalManager}
@@ -46,7 +46,7 @@ module _ {P : Type 0} (test : P → Policy) (tells : Bool) (old : GlobalManager 
 
   module _ (event : CoordEvent) (is : request ≡ Asked_is.Submits event) (core : CoordCore P) (after : Seen) where
     -- so does what the core answers to the event
-    pub answers : (step : CoordStep) → Answers test tells event old.core before step core after
+    pub answers : (step : CoordStep) → StepsOn test tells old.core before core after event step
         → EachManaged (Stands test tells old before) (λ terms programs past. CanAsk ask terms programs past
         → Serves (Stands test tells (record old { core = core }) after) step terms programs past (coord_request ask terms programs past))
     answers step answered terms programs past k can =
@@ -55,7 +55,7 @@ module _ {P : Type 0} (test : P → Policy) (tells : Bool) (old : GlobalManager 
         (sends test tells old core after terms programs past event k.owns fits.1 step (answered terms past k.core fits.0))
 
     -- or that it doesn't answer it
-    pub refuses : (why : StepErr) → Refuses test tells event old.core before why core after
+    pub refuses : (why : StepErr) → FailsOn test tells old.core before core after event why
         → EachManaged (Stands test tells old before) (λ terms programs past. CanAsk ask terms programs past
         → Fails (Stands test tells (record old { core = core }) after) why terms programs past (coord_request ask terms programs past))
     refuses why refused terms programs past k can =

@@ -10,8 +10,8 @@ ghost use Rattle.fed_rules.specs.Reopened.{opened_coordinator};
 ghost use Rattle.journal_disk.specs.Disk.{Seen};
 ghost use Rattle.coord_core.specs.Found.{IsFoundOn, SomeJournal};
 ghost use Rattle.coord_core.specs.Stands.{Holds, IsEmptyDisk, Stands as CoreStands};
-ghost use Rattle.global_manager.specs.Asks.{CanAsk, coord_request};
-ghost use Rattle.global_manager.specs.Stands.{EachManaged, Fails, IsDeclared, Recalls, Serves, SomeManaged, Stands, own_programs};
+ghost use Rattle.global_manager.specs.Asks.{CanAsk, FailsOn, ServesOn};
+ghost use Rattle.global_manager.specs.Stands.{EachManaged, IsDeclared, Recalls, SomeManaged, Stands, own_programs};
 
 use crate::asks::CoordAsk;
 use crate::programs::programs_of;
@@ -105,10 +105,8 @@ impl<P: TakePolicy> GlobalManager<P> {
     ) -> Result<CoordStep, StepErr>
         requires told { IsTrue D.tells }
         requires stood { SomeManaged (Stands P.policy D.tells self.old (D.seen disk.old)) (CanAsk ask) }
-        ensures served { IfOk result (λ step. EachManaged (Stands P.policy D.tells self.old (D.seen disk.old)) (λ terms programs past. CanAsk ask terms programs past
-            → Serves (Stands P.policy D.tells self.new (D.seen disk.new)) step terms programs past (coord_request ask terms programs past))) }
-        ensures failed { IfErr result (λ why. EachManaged (Stands P.policy D.tells self.old (D.seen disk.old)) (λ terms programs past. CanAsk ask terms programs past
-            → Fails (Stands P.policy D.tells self.new (D.seen disk.new)) why terms programs past (coord_request ask terms programs past))) }
+        ensures served { IfOk result (ServesOn (Stands P.policy D.tells self.old (D.seen disk.old)) (Stands P.policy D.tells self.new (D.seen disk.new)) ask) }
+        ensures failed { IfErr result (FailsOn (Stands P.policy D.tells self.old (D.seen disk.old)) (Stands P.policy D.tells self.new (D.seen disk.new)) ask) }
         ensures cause { HasCauseOf StepErr.Disk (D.seen disk.old).faults (D.seen disk.new).faults result }
     {
         let Ok(request) = self.requested(ask) else {

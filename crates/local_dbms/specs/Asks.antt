@@ -2,12 +2,14 @@
 use Rattle.std.specs.Prelude.{Bool, true, false}
 use Rattle.fed_rules.specs.declared.events.SiteEvent.{SiteEvent}
 use Rattle.fed_rules.specs.declared.events.SiteEvent.TheVariants as Ev
+use Rattle.fed_rules.specs.declared.events.SiteStep.{SiteStep}
 use Rattle.fed_rules.specs.Requests.{Request, Submits}
 use Rattle.fed_rules.specs.SiteCommands as Verb
 use Rattle.fed_rules.specs.SiteCommands.{own_request}
 use Rattle.fed_rules.specs.SitePast.{SitePast}
 use Rattle.fed_rules.specs.SiteRecords.{Home}
-use Rattle.local_dbms.specs.Stands.{CanGive, IsShort, OwnPrograms}
+use Rattle.actor_store.specs.declared.errors.StepErr.{StepErr}
+use Rattle.local_dbms.specs.Stands.{CanGive, Each_site, Fails, IsShort, OwnPrograms, Tells}
 use Rattle.local_dbms.specs.declared.asks.SiteAsk.{SiteAsk}
 use Rattle.local_dbms.specs.declared.asks.SiteAsk.TheVariants as At
 
@@ -36,3 +38,13 @@ abbrev pub can_send : SiteAsk → Bool
 can_send (At.Give message) = true
 can_send (At.Ask tid) = true
 can_send ask = false
+
+-- what comes of it, from what the site stood for before to what it stands for after
+module _ (before after : Home → OwnPrograms → SitePast → Type 0) (ask : SiteAsk) where
+  -- of each past for which it stood, where this may be asked, the step is the answer to the request, with what that sends and leaves
+  abbrev pub ServesOn : SiteStep → Type 0
+  ServesOn step = Each_site before (λ home programs past. CanAsk ask home programs past → Tells after step home programs past (site_request ask home programs past))
+
+  -- of each such past the request isn't answered, for this reason
+  abbrev pub FailsOn : StepErr → Type 0
+  FailsOn why = Each_site before (λ home programs past. CanAsk ask home programs past → Fails after why home programs past (site_request ask home programs past))

@@ -1,8 +1,8 @@
 //! What is asked of a local database system, and how it answers.
 ghost use Rattle.std.specs.Prelude.{◌≡◌, IsTrue, IfOk, IfErr, None, false};
 ghost use Rattle.mdb_base.specs.Counts.{HasCauseOf};
-ghost use Rattle.local_dbms.specs.Asks.{CanAsk, can_send, site_request};
-ghost use Rattle.local_dbms.specs.Stands.{Each_site, Fails, Some_site, Stands, Tells};
+ghost use Rattle.local_dbms.specs.Asks.{CanAsk, FailsOn, ServesOn, can_send};
+ghost use Rattle.local_dbms.specs.Stands.{Some_site, Stands};
 
 use crate::dbms::LocalDbms;
 use crate::requests::Request;
@@ -55,10 +55,8 @@ impl<E: LocalEngine> LocalDbms<E> {
     ) -> Result<SiteStep, StepErr>
         requires told { IsTrue D.tells }
         requires stood { Some_site (Stands E.stands D.tells self.old (D.seen disk.old)) (CanAsk ask) }
-        ensures served { IfOk result (λ step. Each_site (Stands E.stands D.tells self.old (D.seen disk.old)) (λ home programs past. CanAsk ask home programs past
-            → Tells (Stands E.stands D.tells self.new (D.seen disk.new)) step home programs past (site_request ask home programs past))) }
-        ensures failed { IfErr result (λ why. Each_site (Stands E.stands D.tells self.old (D.seen disk.old)) (λ home programs past. CanAsk ask home programs past
-            → Fails (Stands E.stands D.tells self.new (D.seen disk.new)) why home programs past (site_request ask home programs past))) }
+        ensures served { IfOk result (ServesOn (Stands E.stands D.tells self.old (D.seen disk.old)) (Stands E.stands D.tells self.new (D.seen disk.new)) ask) }
+        ensures failed { IfErr result (FailsOn (Stands E.stands D.tells self.old (D.seen disk.old)) (Stands E.stands D.tells self.new (D.seen disk.new)) ask) }
         ensures quiet { IfOk result (λ step. can_send ask ≡ false → step.sends ≡ None) }
         ensures cause { HasCauseOf StepErr.Disk (D.seen disk.old).faults (D.seen disk.new).faults result }
     {

@@ -1,7 +1,7 @@
 //! The output of a session that is replayed: the lines that it makes, and its report, or the disk that failed.
 ghost use Rattle.std.specs.Prelude.{◌≡◌, false, IsTrue, IfErr, OnOk, length, map};
 ghost use Rattle.fed_rules.specs.Plans.{IsScenario};
-ghost use Rattle.closing.specs.FreshTowards.{FallsShort, FitWith, Reaches};
+ghost use Rattle.closing.specs.FreshTowards.{FallsShort, FallsShortWhere, FitWith, Reaches, ReachesWhere};
 ghost use Rattle.closing.specs.Steps.{with_commands};
 ghost use Rattle.fed_world.specs.Faults.{CountsTell};
 ghost use Rattle.fed_world.specs.FreshWorlds.{Stands};
@@ -35,10 +35,8 @@ fn carry_out<D: Disk>(
 ) -> Result<(), WorldErr>
     requires told { IsTrue D.tells }
     requires stood { SomeStory (Stands D.tells world.old (map D.seen disks.old.items)) (FitWith commands.now) }
-    ensures done { OnOk result (Reaches D.tells world.old (map D.seen disks.old.items) world.new (map D.seen disks.new.items) (FitWith commands.now)
-        (λ scenario before. with_commands commands.now before)) }
-    ensures failed { IfErr result (λ why. FallsShort D.seen D.tells world.old (map D.seen disks.old.items) why world.new (map D.seen disks.new.items) (FitWith commands.now)
-        (λ scenario before. with_commands commands.now before)) }
+    ensures done { OnOk result (Reaches D.seen D.tells world.old disks.old.items world.new disks.new.items (λ scenario before. with_commands commands.now before)) }
+    ensures failed { IfErr result (FallsShort D.seen D.tells world.old disks.old.items world.new disks.new.items (λ scenario before. with_commands commands.now before)) }
     ensures cause { CountsTell result (map D.seen disks.old.items) (map D.seen disks.new.items) }
 {
     let Ok(()) = world.make_room(commands.len()) else {
@@ -59,8 +57,8 @@ fn play<D: Disk>(
 ) -> Result<(), WorldErr>
     requires told { IsTrue D.tells }
     requires stood { SomeStory (Stands D.tells world.old (map D.seen disks.old.items)) (CanPlay commands.now) }
-    ensures played { OnOk result (Reaches D.tells world.old (map D.seen disks.old.items) world.new (map D.seen disks.new.items) (CanPlay commands.now) (closed_with commands.now)) }
-    ensures failed { IfErr result (λ why. FallsShort D.seen D.tells world.old (map D.seen disks.old.items) why world.new (map D.seen disks.new.items) (CanPlay commands.now) (closed_with commands.now)) }
+    ensures played { OnOk result (ReachesWhere D.seen D.tells world.old disks.old.items world.new disks.new.items (CanPlay commands.now) (closed_with commands.now)) }
+    ensures failed { IfErr result (FallsShortWhere D.seen D.tells world.old disks.old.items world.new disks.new.items (CanPlay commands.now) (closed_with commands.now)) }
     ensures cause { CountsTell result (map D.seen disks.old.items) (map D.seen disks.new.items) }
 {
     carry_out(alloc, world, commands, disks)?;

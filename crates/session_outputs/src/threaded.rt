@@ -1,6 +1,6 @@
 //! A scenario that runs in threads: its hosts, then what closes the session, and then what finishes each transaction alone.
 ghost use Rattle.std.specs.Prelude.{◌≡◌, IfErr, IfOk, OnOk, IsTrue, length, map};
-ghost use Rattle.closing.specs.FreshTowards.{FallsShort, Reaches};
+ghost use Rattle.closing.specs.FreshTowards.{FallsShortWhere, ReachesWhere};
 ghost use Rattle.fed_world.specs.Faults.{CountsTell};
 ghost use Rattle.fed_world.specs.SettingUp.{AreEmpty};
 ghost use Rattle.fed_world.specs.FreshWorlds.{Stands};
@@ -36,8 +36,8 @@ pub(crate) enum Ended {
 fn end<D: Disk>(alloc: Global, world: &mut World, disks: &mut Vec<D>) -> Result<(), WorldErr>
     requires told { IsTrue D.tells }
     requires stood { SomeStory (Stands D.tells world.old (map D.seen disks.old.items)) CanEnd }
-    ensures ended { OnOk result (Reaches D.tells world.old (map D.seen disks.old.items) world.new (map D.seen disks.new.items) CanEnd run_commands) }
-    ensures failed { IfErr result (λ why. FallsShort D.seen D.tells world.old (map D.seen disks.old.items) why world.new (map D.seen disks.new.items) CanEnd run_commands) }
+    ensures ended { OnOk result (ReachesWhere D.seen D.tells world.old disks.old.items world.new disks.new.items CanEnd run_commands) }
+    ensures failed { IfErr result (FallsShortWhere D.seen D.tells world.old disks.old.items world.new disks.new.items CanEnd run_commands) }
     ensures cause { CountsTell result (map D.seen disks.old.items) (map D.seen disks.new.items) }
 {
     closing_is_bounded();

@@ -1,15 +1,21 @@
 -- What a step of a core asks of the past, and what it does to the pasts that the core stands for.
-use Rattle.std.specs.Prelude.{◌≡◌, ◌+◌, ◌<◌, ◌^◌, false, Some, length}
+use Rattle.std.specs.Prelude.{◌≡◌, ◌+◌, ◌<◌, ◌^◌, Bool, false, Some, List, length}
 use Rattle.mdb_base.specs.declared.names.Tid.{Tid}
 use Rattle.field_bytes.specs.Fields.{IsTid}
 use Rattle.fed_rules.specs.declared.events.SiteEvent.{SiteEvent}
 use Rattle.fed_rules.specs.declared.events.SiteEvent.TheVariants as Ev
+use Rattle.fed_rules.specs.declared.events.SiteStep.{SiteStep}
 use Rattle.fed_rules.specs.declared.messages.ToSite.{ToSite}
 use Rattle.fed_rules.specs.declared.messages.ToSite.TheVariants as To
-use Rattle.fed_rules.specs.Runs.{Run, counter, published}
-use Rattle.fed_rules.specs.SitePast.{SitePast, attempts_of, epoch, epoch_start, engine_lines, live}
+use Rattle.fed_rules.specs.Runs.{Start, EngineLine, Run, counter, published}
+use Rattle.fed_rules.specs.Site.{site_line}
+use Rattle.fed_rules.specs.SitePast.{SiteHappening, SitePast, attempts_of, epoch, epoch_start, engine_lines, live}
 use Rattle.fed_rules.specs.SiteRecords.{Home}
+use Rattle.journal_disk.specs.Disk.{Seen}
+use Rattle.actor_store.specs.declared.errors.StepErr.{StepErr}
+use Rattle.site_core.specs.declared.site.SiteCore.{SiteCore}
 use Rattle.site_core.specs.Made.{was_begun, was_global, was_local}
+use Rattle.site_core.specs.Stands.{Adds, Answers, Breaks, Fails, Holds, Stands, Steps}
 
 -- for some past that it stands for the fact holds
 pub record SomePast (K : Home → SitePast → Type 0) (P : Home → SitePast → Type 0) : Type 0 where
@@ -106,3 +112,36 @@ CanStep (Ev.Halt cut) home past = Unit {0}
 CanStep (Ev.Trip calls cut) home past = Unit {0}
 CanStep Ev.Back home past = EpochFits home past
 CanStep Ev.Check home past = Unit {0}
+
+-- what a step does, from an old core with what is seen of its disk before, to a new one with what is seen of its disk after
+module _ {E : Type 0} (stands : E → Start → List EngineLine → Type 0) (tells : Bool) (old : SiteCore E) (before : Seen) (new : SiteCore E) (after : Seen) where
+  -- of each past for which the old core stood, where the event may come, the step is the answer to it, and the new core stands for the next
+  -- line
+  abbrev pub StepsOn : SiteEvent → SiteStep → Type 0
+  StepsOn event step =
+      EachPast (Stands stands tells old before) (λ home past. CanStep event home past → Steps stands tells step new after home past (site_line home past event))
+
+  -- of each such past the event isn't answered, for this reason, and the new core stands for what that leaves
+  abbrev pub FailsOn : SiteEvent → StepErr → Type 0
+  FailsOn event why = EachPast (Stands stands tells old before) (λ home past. CanStep event home past → Fails stands tells why new after home past event)
+
+  -- of each past for which the old core stood, where this may come, the step is that of this line, and the new core has the line in memory
+  -- and on its disk
+  abbrev pub AnswersWhere : (Home → SitePast → Type 0) → (Home → SitePast → SiteHappening) → SiteStep → Type 0
+  AnswersWhere Can line step =
+      EachPast (Stands stands tells old before) (λ home past. Can home past → Answers stands tells step new after home past (line home past))
+
+  -- of each such past the event isn't answered, for this reason, and the new core has in memory and on its disk what that leaves
+  abbrev pub BreaksWhere : (Home → SitePast → Type 0) → SiteEvent → StepErr → Type 0
+  BreaksWhere Can event why = EachPast (Stands stands tells old before) (λ home past. Can home past → Breaks stands tells why new after home past event)
+
+  -- the same of each past for which the old core stood, whatever it is
+  abbrev pub AnswersEach : (Home → SitePast → SiteHappening) → SiteStep → Type 0
+  AnswersEach line step = EachPast (Stands stands tells old before) (λ home past. Answers stands tells step new after home past (line home past))
+
+  abbrev pub BreaksEach : SiteEvent → StepErr → Type 0
+  BreaksEach event why = EachPast (Stands stands tells old before) (λ home past. Breaks stands tells why new after home past event)
+
+-- of each past that the old core held in memory, where this may come, the step is that of this line, and the new core has it in memory
+abbrev pub AddsWhere : {E : Type 0} → (E → Start → List EngineLine → Type 0) → SiteCore E → SiteCore E → (Home → SitePast → Type 0) → (Home → SitePast → SiteHappening) → SiteStep → Type 0
+AddsWhere stands old new Can line step = EachPast (Holds stands old) (λ home past. Can home past → Adds stands step new home past (line home past))

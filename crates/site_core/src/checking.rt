@@ -2,8 +2,8 @@
 ghost use Rattle.std.specs.Prelude.{◌≡◌, IfOk, IfErr, IsTrue};
 ghost use Rattle.mdb_base.specs.Counts.{HasCauseOf};
 ghost use Rattle.fed_rules.specs.Site.{of_check, unless_tripped};
-ghost use Rattle.site_core.specs.Stands.{Answers, Breaks, Stands};
-ghost use Rattle.site_core.specs.Steps.{AnyPast, EachPast, SomePast};
+ghost use Rattle.site_core.specs.Stands.{Stands};
+ghost use Rattle.site_core.specs.Steps.{AnswersEach, AnyPast, BreaksEach, SomePast};
 
 use crate::answers::says;
 use crate::site::SiteCore;
@@ -25,10 +25,8 @@ impl<E: LocalEngine> SiteCore<E> {
         requires told { IsTrue D.tells }
         requires up { self.old.store.standing ≡ Standing.Up }
         requires may { SomePast (Stands E.stands D.tells self.old (D.seen disk.old)) AnyPast }
-        ensures answered { IfOk result (λ step. EachPast (Stands E.stands D.tells self.old (D.seen disk.old))
-            (λ home past. Answers E.stands D.tells step self.new (D.seen disk.new) home past (unless_tripped home past (of_check home past)))) }
-        ensures failed { IfErr result (λ why. EachPast (Stands E.stands D.tells self.old (D.seen disk.old))
-            (λ home past. Breaks E.stands D.tells why self.new (D.seen disk.new) home past SiteEvent.Check)) }
+        ensures answered { IfOk result (AnswersEach E.stands D.tells self.old (D.seen disk.old) self.new (D.seen disk.new) (λ home past. unless_tripped home past (of_check home past))) }
+        ensures failed { IfErr result (BreaksEach E.stands D.tells self.old (D.seen disk.old) self.new (D.seen disk.new) SiteEvent.Check) }
         ensures cause { HasCauseOf StepErr.Disk (D.seen disk.old).faults (D.seen disk.new).faults result }
     {
         let Ok(sum) = read_sum(alloc, self.store.records()) else {

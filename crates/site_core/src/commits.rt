@@ -4,7 +4,7 @@ ghost use Rattle.mdb_base.specs.Counts.{HasCauseOf};
 ghost use Rattle.fed_rules.specs.Site.{of_commit, unless_tripped};
 ghost use Rattle.site_core.specs.Sealing.{StandsSealing};
 ghost use Rattle.site_core.specs.Stands.{Answers, Breaks, Stands};
-ghost use Rattle.site_core.specs.Steps.{CanStep, EachPast, SomePast};
+ghost use Rattle.site_core.specs.Steps.{AnswersWhere, BreaksWhere, CanStep, EachPast, SomePast};
 
 use crate::answers::{refusal_answer, says};
 use crate::site::SiteCore;
@@ -27,11 +27,8 @@ impl<E: LocalEngine> SiteCore<E> {
         requires told { IsTrue D.tells }
         requires up { self.old.store.standing ≡ Standing.Up }
         requires may { SomePast (Stands E.stands D.tells self.old (D.seen disk.old)) (CanStep (SiteEvent.Commit tid)) }
-        ensures answered { IfOk result (λ step. EachPast (Stands E.stands D.tells self.old (D.seen disk.old))
-            (λ home past. CanStep (SiteEvent.Commit tid) home past → Answers E.stands D.tells step self.new (D.seen disk.new) home past
-            (unless_tripped home past (of_commit home past tid)))) }
-        ensures failed { IfErr result (λ why. EachPast (Stands E.stands D.tells self.old (D.seen disk.old))
-            (λ home past. CanStep (SiteEvent.Commit tid) home past → Breaks E.stands D.tells why self.new (D.seen disk.new) home past (SiteEvent.Commit tid))) }
+        ensures answered { IfOk result (AnswersWhere E.stands D.tells self.old (D.seen disk.old) self.new (D.seen disk.new) (CanStep (SiteEvent.Commit tid)) (λ home past. unless_tripped home past (of_commit home past tid))) }
+        ensures failed { IfErr result (BreaksWhere E.stands D.tells self.old (D.seen disk.old) self.new (D.seen disk.new) (CanStep (SiteEvent.Commit tid)) (SiteEvent.Commit tid)) }
         ensures cause { HasCauseOf StepErr.Disk (D.seen disk.old).faults (D.seen disk.new).faults result }
     {
         if self.book.live(tid).is_none() {

@@ -16,8 +16,8 @@ ghost use Rattle.actor_store.specs.Store.{Old, SomeKeptBehind, is_up};
 ghost use Rattle.engine_contract.specs.Calls.{CanCommit as CanCommitRun};
 ghost use Rattle.engine_contract.specs.Past.{AddsLine, SomePast as SomeLines};
 ghost use Rattle.prepared_state.specs.Book.{doubt_about};
-ghost use Rattle.site_core.specs.Stands.{Answers, Breaks, Stands};
-ghost use Rattle.site_core.specs.Steps.{CanDecide, EachPast, SomePast};
+ghost use Rattle.site_core.specs.Stands.{Stands};
+ghost use Rattle.site_core.specs.Steps.{AnswersWhere, BreaksWhere, CanDecide, SomePast};
 ghost use Rattle.site_core.specs.Store.{Ends, KeepsBehind};
 
 use crate::answers::says;
@@ -43,11 +43,8 @@ impl<E: LocalEngine> SiteCore<E> {
         requires told { IsTrue D.tells }
         requires up { self.old.store.standing ≡ Standing.Up }
         requires may { SomePast (Stands E.stands D.tells self.old (D.seen disk.old)) (CanDecide tid) }
-        ensures answered { IfOk result (λ step. EachPast (Stands E.stands D.tells self.old (D.seen disk.old))
-            (λ home past. CanDecide tid home past → Answers E.stands D.tells step self.new (D.seen disk.new) home past
-            (unless_tripped home past (of_decide home past tid decision)))) }
-        ensures failed { IfErr result (λ why. EachPast (Stands E.stands D.tells self.old (D.seen disk.old))
-            (λ home past. CanDecide tid home past → Breaks E.stands D.tells why self.new (D.seen disk.new) home past (SiteEvent.Give (To.Decide tid decision)))) }
+        ensures answered { IfOk result (AnswersWhere E.stands D.tells self.old (D.seen disk.old) self.new (D.seen disk.new) (CanDecide tid) (λ home past. unless_tripped home past (of_decide home past tid decision))) }
+        ensures failed { IfErr result (BreaksWhere E.stands D.tells self.old (D.seen disk.old) self.new (D.seen disk.new) (CanDecide tid) (SiteEvent.Give (To.Decide tid decision))) }
         ensures cause { HasCauseOf StepErr.Disk (D.seen disk.old).faults (D.seen disk.new).faults result }
     {
         if self.doubts.doubtful(tid).is_some() {
@@ -79,11 +76,8 @@ impl<E: LocalEngine> SiteCore<E> {
         requires up { self.old.store.standing ≡ Standing.Up }
         requires doubtful { IsSome (doubt_about tid self.old.doubts.doubts) }
         requires may { SomePast (Stands E.stands D.tells self.old (D.seen disk.old)) (CanDecide tid) }
-        ensures answered { IfOk result (λ step. EachPast (Stands E.stands D.tells self.old (D.seen disk.old))
-            (λ home past. CanDecide tid home past → Answers E.stands D.tells step self.new (D.seen disk.new) home past
-            (unless_tripped home past (of_decide home past tid decision)))) }
-        ensures failed { IfErr result (λ why. EachPast (Stands E.stands D.tells self.old (D.seen disk.old))
-            (λ home past. CanDecide tid home past → Breaks E.stands D.tells why self.new (D.seen disk.new) home past (SiteEvent.Give (To.Decide tid decision)))) }
+        ensures answered { IfOk result (AnswersWhere E.stands D.tells self.old (D.seen disk.old) self.new (D.seen disk.new) (CanDecide tid) (λ home past. unless_tripped home past (of_decide home past tid decision))) }
+        ensures failed { IfErr result (BreaksWhere E.stands D.tells self.old (D.seen disk.old) self.new (D.seen disk.new) (CanDecide tid) (SiteEvent.Give (To.Decide tid decision))) }
         ensures cause { HasCauseOf StepErr.Disk (D.seen disk.old).faults (D.seen disk.new).faults result }
     {
         let entry = SiteRecord::Ended { tid, decision };

@@ -1,11 +1,11 @@
 //! The events of local attempts that call no disk.
-ghost use Rattle.std.specs.Prelude.{◌≡◌, IfOk, OnOk, OnErr};
+ghost use Rattle.std.specs.Prelude.{◌≡◌, IfOk, OnErr};
 ghost use Rattle.fed_rules.specs.Runs.{Acts};
 ghost use Rattle.fed_rules.specs.Site.{of_abort, of_act, of_begin, of_fate};
 ghost use Rattle.engine_contract.specs.Past.{AddsLine, KeepsPast, SomePast as SomeLines};
 ghost use Rattle.engine_contract.specs.Calls.{CanAct as CanRunAct};
 ghost use Rattle.site_core.specs.Stands.{Adds, Holds, Remembers};
-ghost use Rattle.site_core.specs.Steps.{CanStep, EachPast, SomePast};
+ghost use Rattle.site_core.specs.Steps.{AddsWhere, CanStep, EachPast, SomePast};
 
 use crate::answers::{act_answer, says};
 use crate::site::SiteCore;
@@ -20,8 +20,7 @@ impl<E: LocalEngine> SiteCore<E> {
     pub(crate) fn begin(&mut self, alloc: Global, tid: Tid) -> Result<SiteStep, Memory>
         requires up { self.old.store.standing ≡ Standing.Up }
         requires may { SomePast (Holds E.stands self.old) (CanStep (SiteEvent.Begin tid)) }
-        ensures answered { IfOk result (λ step. EachPast (Holds E.stands self.old)
-            (λ home past. CanStep (SiteEvent.Begin tid) home past → Adds E.stands step self.new home past (of_begin home past tid))) }
+        ensures answered { IfOk result (AddsWhere E.stands self.old self.new (CanStep (SiteEvent.Begin tid)) (λ home past. of_begin home past tid)) }
         ensures memory { OnErr result (EachPast (Holds E.stands self.old) (Remembers E.stands self.new)) }
         ensures store { self.new.store ≡ self.old.store }
     {
@@ -45,8 +44,7 @@ impl<E: LocalEngine> SiteCore<E> {
     pub(crate) fn act(&mut self, alloc: Global, tid: Tid, act: PlainAct) -> Result<SiteStep, Memory>
         requires up { self.old.store.standing ≡ Standing.Up }
         requires may { SomePast (Holds E.stands self.old) (CanStep (SiteEvent.Act tid act)) }
-        ensures answered { IfOk result (λ step. EachPast (Holds E.stands self.old)
-            (λ home past. Adds E.stands step self.new home past (of_act home past tid act))) }
+        ensures answered { IfOk result (λ step. EachPast (Holds E.stands self.old) (λ home past. Adds E.stands step self.new home past (of_act home past tid act))) }
         ensures memory { OnErr result (EachPast (Holds E.stands self.old) (Remembers E.stands self.new)) }
         ensures store { self.new.store ≡ self.old.store }
     {
@@ -76,8 +74,7 @@ impl<E: LocalEngine> SiteCore<E> {
     /// How a local transaction ended.
     pub(crate) fn fate(&self, tx: Tx) -> SiteStep
         requires up { self.now.store.standing ≡ Standing.Up }
-        ensures { EachPast (Holds E.stands self.now)
-            (λ home past. CanStep (SiteEvent.Fate tx) home past → Adds E.stands result self.now home past (of_fate home past tx)) }
+        ensures { AddsWhere E.stands self.now self.now (CanStep (SiteEvent.Fate tx)) (λ home past. of_fate home past tx) result }
     {
         if let Some(committed) = self.book.committed(tx) {
             return says(Answer::Committed(committed));

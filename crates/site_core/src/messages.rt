@@ -2,8 +2,8 @@
 ghost use Rattle.std.specs.Prelude.{◌≡◌, IfOk, IfErr, IsTrue};
 ghost use Rattle.mdb_base.specs.Counts.{HasCauseOf};
 ghost use Rattle.fed_rules.specs.Site.{of_give, unless_tripped};
-ghost use Rattle.site_core.specs.Stands.{Answers, Breaks, Stands};
-ghost use Rattle.site_core.specs.Steps.{CanTakeMessage, EachPast, SomePast};
+ghost use Rattle.site_core.specs.Stands.{Stands};
+ghost use Rattle.site_core.specs.Steps.{AnswersWhere, BreaksWhere, CanTakeMessage, SomePast};
 
 use crate::site::SiteCore;
 use actor_store::{Standing, StepErr};
@@ -24,11 +24,8 @@ impl<E: LocalEngine> SiteCore<E> {
         requires told { IsTrue D.tells }
         requires up { self.old.store.standing ≡ Standing.Up }
         requires may { SomePast (Stands E.stands D.tells self.old (D.seen disk.old)) (CanTakeMessage message) }
-        ensures answered { IfOk result (λ step. EachPast (Stands E.stands D.tells self.old (D.seen disk.old))
-            (λ home past. CanTakeMessage message home past → Answers E.stands D.tells step self.new (D.seen disk.new) home past
-            (unless_tripped home past (of_give home past message)))) }
-        ensures failed { IfErr result (λ why. EachPast (Stands E.stands D.tells self.old (D.seen disk.old))
-            (λ home past. CanTakeMessage message home past → Breaks E.stands D.tells why self.new (D.seen disk.new) home past (SiteEvent.Give (message)))) }
+        ensures answered { IfOk result (AnswersWhere E.stands D.tells self.old (D.seen disk.old) self.new (D.seen disk.new) (CanTakeMessage message) (λ home past. unless_tripped home past (of_give home past message))) }
+        ensures failed { IfErr result (BreaksWhere E.stands D.tells self.old (D.seen disk.old) self.new (D.seen disk.new) (CanTakeMessage message) (SiteEvent.Give message)) }
         ensures cause { HasCauseOf StepErr.Disk (D.seen disk.old).faults (D.seen disk.new).faults result }
     {
         match message {

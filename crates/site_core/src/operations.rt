@@ -6,8 +6,8 @@ ghost use Rattle.fed_rules.specs.declared.answers.Answer.TheVariants as Say;
 ghost use Rattle.fed_rules.specs.declared.messages.FromSite.TheVariants as From;
 ghost use Rattle.site_book.specs.Book.{live_in};
 ghost use Rattle.site_core.specs.Operations.{taken_again, worked_again};
-ghost use Rattle.site_core.specs.Stands.{Adds, Holds, Remembers};
-ghost use Rattle.site_core.specs.Steps.{CanTakeTicket, CanWork, EachPast, SomePast};
+ghost use Rattle.site_core.specs.Stands.{Holds, Remembers};
+ghost use Rattle.site_core.specs.Steps.{AddsWhere, CanTakeTicket, CanWork, EachPast, SomePast};
 
 use crate::locals::access;
 use crate::site::SiteCore;
@@ -30,8 +30,7 @@ impl<E: LocalEngine> SiteCore<E> {
     ) -> Result<SiteStep, Memory>
         requires up { self.old.store.standing ≡ Standing.Up }
         requires may { SomePast (Holds E.stands self.old) (CanWork tid) }
-        ensures answered { IfOk result (λ step. EachPast (Holds E.stands self.old)
-            (λ home past. CanWork tid home past → Adds E.stands step self.new home past (of_work home past tid epoch n act))) }
+        ensures answered { IfOk result (AddsWhere E.stands self.old self.new (CanWork tid) (λ home past. of_work home past tid epoch n act)) }
         ensures memory { OnErr result (EachPast (Holds E.stands self.old) (Remembers E.stands self.new)) }
         ensures store { self.new.store ≡ self.old.store }
     {
@@ -58,8 +57,7 @@ impl<E: LocalEngine> SiteCore<E> {
         requires up { self.old.store.standing ≡ Standing.Up }
         requires not_live { live_in self.old.book tid ≡ None }
         requires may { SomePast (Holds E.stands self.old) (CanWork tid) }
-        ensures answered { IfOk result (λ step. EachPast (Holds E.stands self.old)
-            (λ home past. CanWork tid home past → Adds E.stands step self.new home past (of_work home past tid epoch n act))) }
+        ensures answered { IfOk result (AddsWhere E.stands self.old self.new (CanWork tid) (λ home past. of_work home past tid epoch n act)) }
         ensures memory { OnErr result (EachPast (Holds E.stands self.old) (Remembers E.stands self.new)) }
         ensures store { self.new.store ≡ self.old.store }
     {
@@ -90,8 +88,7 @@ impl<E: LocalEngine> SiteCore<E> {
     ) -> Result<SiteStep, Memory>
         requires up { self.old.store.standing ≡ Standing.Up }
         requires may { SomePast (Holds E.stands self.old) (CanTakeTicket tid) }
-        ensures answered { IfOk result (λ step. EachPast (Holds E.stands self.old)
-            (λ home past. CanTakeTicket tid home past → Adds E.stands step self.new home past (of_take home past tid epoch n))) }
+        ensures answered { IfOk result (AddsWhere E.stands self.old self.new (CanTakeTicket tid) (λ home past. of_take home past tid epoch n)) }
         ensures memory { OnErr result (EachPast (Holds E.stands self.old) (Remembers E.stands self.new)) }
         ensures store { self.new.store ≡ self.old.store }
     {

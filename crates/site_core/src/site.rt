@@ -22,8 +22,8 @@ ghost use Rattle.prepared_state.specs.Book.{doubt_about};
 ghost use Rattle.journal_sums.specs.Starts.{doubt_held};
 ghost use Rattle.site_core.specs.Made.{was_global};
 ghost use Rattle.site_core.specs.Found.{IsFoundOn, SomeJournal};
-ghost use Rattle.site_core.specs.Stands.{Answers, Breaks, Fails, Holds, IsOfKind, Stands, Steps};
-ghost use Rattle.site_core.specs.Steps.{CanStep, EachPast, SomePast};
+ghost use Rattle.site_core.specs.Stands.{Holds, IsOfKind, Stands};
+ghost use Rattle.site_core.specs.Steps.{AnswersWhere, BreaksWhere, CanStep, EachPast, FailsOn, SomePast, StepsOn};
 ghost use Rattle.site_core.specs.Store.{SomeStop};
 
 use crate::answers::says;
@@ -133,10 +133,8 @@ impl<E: LocalEngine> SiteCore<E> {
     ) -> Result<SiteStep, StepErr>
         requires told { IsTrue D.tells }
         requires may { SomePast (Stands E.stands D.tells self.old (D.seen disk.old)) (CanStep event) }
-        ensures answered { IfOk result (λ step. EachPast (Stands E.stands D.tells self.old (D.seen disk.old))
-            (λ home past. CanStep event home past → Steps E.stands D.tells step self.new (D.seen disk.new) home past (site_line home past event))) }
-        ensures failed { IfErr result (λ why. EachPast (Stands E.stands D.tells self.old (D.seen disk.old))
-            (λ home past. CanStep event home past → Fails E.stands D.tells why self.new (D.seen disk.new) home past event)) }
+        ensures answered { IfOk result (StepsOn E.stands D.tells self.old (D.seen disk.old) self.new (D.seen disk.new) event) }
+        ensures failed { IfErr result (FailsOn E.stands D.tells self.old (D.seen disk.old) self.new (D.seen disk.new) event) }
         ensures cause { HasCauseOf StepErr.Disk (D.seen disk.old).faults (D.seen disk.new).faults result }
     {
         match self.store.standing {
@@ -231,10 +229,8 @@ impl<E: LocalEngine> SiteCore<E> {
         requires told { IsTrue D.tells }
         requires up { self.old.store.standing ≡ Standing.Up }
         requires may { SomePast (Stands E.stands D.tells self.old (D.seen disk.old)) (CanStep event) }
-        ensures answered { IfOk result (λ step. EachPast (Stands E.stands D.tells self.old (D.seen disk.old))
-            (λ home past. CanStep event home past → Answers E.stands D.tells step self.new (D.seen disk.new) home past (site_line home past event))) }
-        ensures failed { IfErr result (λ why. EachPast (Stands E.stands D.tells self.old (D.seen disk.old))
-            (λ home past. CanStep event home past → Breaks E.stands D.tells why self.new (D.seen disk.new) home past event)) }
+        ensures answered { IfOk result (AnswersWhere E.stands D.tells self.old (D.seen disk.old) self.new (D.seen disk.new) (CanStep event) (λ home past. site_line home past event)) }
+        ensures failed { IfErr result (BreaksWhere E.stands D.tells self.old (D.seen disk.old) self.new (D.seen disk.new) (CanStep event) event) }
         ensures cause { HasCauseOf StepErr.Disk (D.seen disk.old).faults (D.seen disk.new).faults result }
     {
         match event {
@@ -269,10 +265,8 @@ impl<E: LocalEngine> SiteCore<E> {
         requires told { IsTrue D.tells }
         requires down { is_up self.old.store.standing ≡ false }
         requires may { SomePast (Stands E.stands D.tells self.old (D.seen disk.old)) (CanStep event) }
-        ensures answered { IfOk result (λ step. EachPast (Stands E.stands D.tells self.old (D.seen disk.old))
-            (λ home past. CanStep event home past → Answers E.stands D.tells step self.new (D.seen disk.new) home past (site_line home past event))) }
-        ensures failed { IfErr result (λ why. EachPast (Stands E.stands D.tells self.old (D.seen disk.old))
-            (λ home past. CanStep event home past → Breaks E.stands D.tells why self.new (D.seen disk.new) home past event)) }
+        ensures answered { IfOk result (AnswersWhere E.stands D.tells self.old (D.seen disk.old) self.new (D.seen disk.new) (CanStep event) (λ home past. site_line home past event)) }
+        ensures failed { IfErr result (BreaksWhere E.stands D.tells self.old (D.seen disk.old) self.new (D.seen disk.new) (CanStep event) event) }
         ensures cause { HasCauseOf StepErr.Disk (D.seen disk.old).faults (D.seen disk.new).faults result }
     {
         match event {

@@ -13,8 +13,8 @@ ghost use Rattle.prepared_state.specs.Book.{AreApart, doubt_about};
 ghost use Rattle.journal_sums.specs.Starts.{doubt_held};
 ghost use Rattle.site_book.specs.Book.{begun_in, restarted};
 ghost use Rattle.site_core.specs.Recovered.{held_tid};
-ghost use Rattle.site_core.specs.Stands.{Answers, Breaks, Stands};
-ghost use Rattle.site_core.specs.Steps.{CanStep, EachPast, SomePast};
+ghost use Rattle.site_core.specs.Stands.{Stands};
+ghost use Rattle.site_core.specs.Steps.{AnswersEach, BreaksEach, CanStep, SomePast};
 
 use crate::answers::says;
 use crate::site::SiteCore;
@@ -34,10 +34,8 @@ impl<E: LocalEngine> SiteCore<E> {
         requires told { IsTrue D.tells }
         requires down { is_up self.old.store.standing ≡ false }
         requires may { SomePast (Stands E.stands D.tells self.old (D.seen disk.old)) (CanStep SiteEvent.Back) }
-        ensures answered { IfOk result (λ step. EachPast (Stands E.stands D.tells self.old (D.seen disk.old))
-            (λ home past. Answers E.stands D.tells step self.new (D.seen disk.new) home past (site_line home past SiteEvent.Back))) }
-        ensures failed { IfErr result (λ why. EachPast (Stands E.stands D.tells self.old (D.seen disk.old))
-            (λ home past. Breaks E.stands D.tells why self.new (D.seen disk.new) home past SiteEvent.Back)) }
+        ensures answered { IfOk result (AnswersEach E.stands D.tells self.old (D.seen disk.old) self.new (D.seen disk.new) (λ home past. site_line home past SiteEvent.Back)) }
+        ensures failed { IfErr result (BreaksEach E.stands D.tells self.old (D.seen disk.old) self.new (D.seen disk.new) SiteEvent.Back) }
         ensures cause { HasCauseOf StepErr.Disk (D.seen disk.old).faults (D.seen disk.new).faults result }
     {
         match self.store.reload(alloc, disk) {
@@ -56,10 +54,8 @@ impl<E: LocalEngine> SiteCore<E> {
         requires told { IsTrue D.tells }
         requires down { is_up self.old.store.standing ≡ false }
         requires may { SomePast (Stands E.stands D.tells self.old (D.seen disk.old)) (CanStep SiteEvent.Back) }
-        ensures answered { IfOk result (λ step. EachPast (Stands E.stands D.tells self.old (D.seen disk.old))
-            (λ home past. Answers E.stands D.tells step self.new (D.seen disk.new) home past (site_line home past SiteEvent.Back))) }
-        ensures failed { IfErr result (λ why. EachPast (Stands E.stands D.tells self.old (D.seen disk.old))
-            (λ home past. Breaks E.stands D.tells why self.new (D.seen disk.new) home past SiteEvent.Back)) }
+        ensures answered { IfOk result (AnswersEach E.stands D.tells self.old (D.seen disk.old) self.new (D.seen disk.new) (λ home past. site_line home past SiteEvent.Back)) }
+        ensures failed { IfErr result (BreaksEach E.stands D.tells self.old (D.seen disk.old) self.new (D.seen disk.new) SiteEvent.Back) }
         ensures cause { HasCauseOf StepErr.Disk (D.seen disk.old).faults (D.seen disk.new).faults result }
     {
         let Ok(sum) = read_sum(alloc, self.store.records()) else {

@@ -2,8 +2,8 @@
 ghost use Rattle.std.specs.Prelude.{◌≡◌, None, IsTrue};
 ghost use Rattle.fed_rules.specs.Site.{site_line};
 ghost use Rattle.actor_store.specs.Store.{trip_to};
-ghost use Rattle.site_core.specs.Stands.{Answers, Stands};
-ghost use Rattle.site_core.specs.Steps.{AnyPast, EachPast, SomePast};
+ghost use Rattle.site_core.specs.Stands.{Stands};
+ghost use Rattle.site_core.specs.Steps.{AnswersEach, AnyPast, SomePast};
 
 use crate::answers::says;
 use crate::site::SiteCore;
@@ -18,8 +18,7 @@ impl<E: LocalEngine> SiteCore<E> {
         requires told { IsTrue D.tells }
         requires up { self.old.store.standing ≡ Standing.Up }
         requires may { SomePast (Stands E.stands D.tells self.old (D.seen disk.old)) AnyPast }
-        ensures answered { EachPast (Stands E.stands D.tells self.old (D.seen disk.old))
-            (λ home past. Answers E.stands D.tells result self.new (D.seen disk.new) home past (site_line home past (SiteEvent.Halt cut))) }
+        ensures answered { AnswersEach E.stands D.tells self.old (D.seen disk.old) self.new (D.seen disk.new) (λ home past. site_line home past (SiteEvent.Halt cut)) result }
         ensures faults { (D.seen disk.new).faults ≡ (D.seen disk.old).faults }
     {
         let kept = self.store.stop(disk, cut);

@@ -10,7 +10,7 @@ ghost use Rattle.site_book.specs.Book.{live_in};
 ghost use Rattle.site_core.specs.Operations.{finished_ticket};
 ghost use Rattle.site_core.specs.Sealing.{HasFinished, StandsSealing};
 ghost use Rattle.site_core.specs.Stands.{Answers, Breaks, Stands};
-ghost use Rattle.site_core.specs.Steps.{CanPrepare, EachPast, SomePast};
+ghost use Rattle.site_core.specs.Steps.{AnswersWhere, BreaksWhere, CanPrepare, EachPast, SomePast};
 
 use crate::answers::says;
 use crate::site::SiteCore;
@@ -36,11 +36,8 @@ impl<E: LocalEngine> SiteCore<E> {
         requires told { IsTrue D.tells }
         requires up { self.old.store.standing ≡ Standing.Up }
         requires may { SomePast (Stands E.stands D.tells self.old (D.seen disk.old)) (CanPrepare tid) }
-        ensures answered { IfOk result (λ step. EachPast (Stands E.stands D.tells self.old (D.seen disk.old))
-            (λ home past. CanPrepare tid home past → Answers E.stands D.tells step self.new (D.seen disk.new) home past
-            (unless_tripped home past (of_prepare home past tid epoch n)))) }
-        ensures failed { IfErr result (λ why. EachPast (Stands E.stands D.tells self.old (D.seen disk.old))
-            (λ home past. CanPrepare tid home past → Breaks E.stands D.tells why self.new (D.seen disk.new) home past (SiteEvent.Give (To.Prepare tid epoch n)))) }
+        ensures answered { IfOk result (AnswersWhere E.stands D.tells self.old (D.seen disk.old) self.new (D.seen disk.new) (CanPrepare tid) (λ home past. unless_tripped home past (of_prepare home past tid epoch n))) }
+        ensures failed { IfErr result (BreaksWhere E.stands D.tells self.old (D.seen disk.old) self.new (D.seen disk.new) (CanPrepare tid) (SiteEvent.Give (To.Prepare tid epoch n))) }
         ensures cause { HasCauseOf StepErr.Disk (D.seen disk.old).faults (D.seen disk.new).faults result }
     {
         if let Some(doubt) = self.doubts.doubtful(tid) {

@@ -1,7 +1,7 @@
 use Rattle.mdb_base.proofs.ResultLaws.{map_err, map_ok}
 use Rattle.fed_rules.specs.declared.events.CoordStep.{CoordStep}
 use Rattle.actor_store.specs.declared.errors.StepErr.{StepErr}
-use Rattle.coord_core.specs.Steps.{Answers, Refuses}
+use Rattle.coord_core.specs.Steps.{FailsOn, StepsOn}
 use Rattle.global_manager.specs.declared.requests.Request.TheVariants as Asked_is
 use Rattle.global_manager.specs.Asks.{CanAsk, coord_request}
 use Rattle.global_manager.specs.Stands.{EachManaged, Fails, Serves, Stands}
@@ -32,7 +32,7 @@ returns-in-Submits-clause-served g c =
     let core = c.step.new.self in
     let before = g.D.Disk.seen c.args.disk.now in
     let after = g.D.Disk.seen c.step.new.disk in
-    let P : CoordStep → Type 0 = λ step. Answers test tells c.in-Submits.event old.core before step core after in
+    let P : CoordStep → Type 0 = λ step. StepsOn test tells old.core before core after c.in-Submits.event step in
     let Q : CoordStep → Type 0 = λ step. EachManaged (Stands test tells old before) (λ terms programs past. CanAsk c.args.ask terms programs past
     → Serves (Stands test tells (record old { core = core }) after) step terms programs past (coord_request c.args.ask terms programs past)) in
     map_ok P Q c.step.result c.step.ensures.answered
@@ -46,7 +46,7 @@ returns-in-Submits-clause-failed g c =
     let core = c.step.new.self in
     let before = g.D.Disk.seen c.args.disk.now in
     let after = g.D.Disk.seen c.step.new.disk in
-    let P : StepErr → Type 0 = λ why. Refuses test tells c.in-Submits.event old.core before why core after in
+    let P : StepErr → Type 0 = λ why. FailsOn test tells old.core before core after c.in-Submits.event why in
     let Q : StepErr → Type 0 = λ why. EachManaged (Stands test tells old before) (λ terms programs past. CanAsk c.args.ask terms programs past
     → Fails (Stands test tells (record old { core = core }) after) why terms programs past (coord_request c.args.ask terms programs past)) in
     map_err P Q c.step.result c.step.ensures.failed
