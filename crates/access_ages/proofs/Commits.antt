@@ -2,14 +2,12 @@
 use Rattle.std.proofs.Common.{◌≡◌, ℕ, Bool, true, false, cond, Option, Some, None, List, [], ◌∷◌, inl, inr, refl, sym, ap, subst, arith}
 use Rattle.mdb_base.specs.declared.names.Tid.{Tid}
 use Rattle.mdb_base.specs.Words.{Each}
-use Rattle.mdb_base.proofs.ListLaws.{each_map}
-use Rattle.mdb_base.proofs.EachLaws.{among_inserted}
+use Rattle.mdb_base.proofs.ForCallers.{among_inserted, each_map}
 use Rattle.fed_rules.specs.Runs.{Start, EngineLine, Commits, Run, tid_of, run_at, committed}
 use Rattle.fed_rules.specs.Replies.{age_of}
 use Rattle.fed_rules.specs.EngineLines.{IsRightLine, IsRight}
 use Rattle.engine_laws.specs.ReplyLaws.{IsAmong}
-use Rattle.engine_laws.proofs.Runs.{each_committed, committed_is}
-use Rattle.engine_laws.proofs.ByNumber.{is_later}
+use Rattle.engine_laws.proofs.ForCallers.{committed_is, each_committed, is_later}
 use Rattle.run_book.specs.declared.rival.Rival.{Rival}
 use Rattle.run_book.specs.Rivals.{rival_by}
 use Rattle.access_ages.specs.Ages.{younger_of}

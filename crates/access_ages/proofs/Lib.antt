@@ -1,13 +1,14 @@
-pub mod Commits
-pub mod KeyMaps
-pub mod Listed
-pub mod Live
-pub mod Outcomes
-pub mod Readers
-pub mod Rules
-pub mod Steps
-pub mod TicketRules
-pub mod Tickets
-pub mod Trees
-pub mod Writers
-pub mod Youngest
+pub mod ForCallers
+mod Commits
+mod KeyMaps
+mod Listed
+mod Live
+mod Outcomes
+mod Readers
+mod Rules
+mod Steps
+mod TicketRules
+mod Tickets
+mod Trees
+mod Writers
+mod Youngest

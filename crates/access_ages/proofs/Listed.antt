@@ -4,13 +4,13 @@ use Rattle.std.proofs.lemmas.Bool.{ltb-true, ltb-false}
 use Rattle.std.proofs.lemmas.Option.{same_Some}
 use Rattle.mdb_base.specs.declared.names.Tid.{Tid}
 use Rattle.mdb_base.specs.Words.{map_some, greatest}
-use Rattle.mdb_base.proofs.ListLaws.{each_among}
+use Rattle.mdb_base.proofs.ForCallers.{each_among}
 use Rattle.fed_rules.specs.Runs.{Run}
 use Rattle.fed_rules.specs.Replies.{age_of, late_or_wait}
-use Rattle.engine_laws.proofs.Relations.{Lists, OfOneAge}
+use Rattle.engine_laws.proofs.ForCallers.{Lists, OfOneAge}
 use Rattle.run_book.specs.declared.rival.Rival.{Rival}
 use Rattle.run_book.specs.Rivals.{rival_by}
-use Rattle.run_book.proofs.Best.{greatest-is, greatest-none}
+use Rattle.run_book.proofs.ForCallers.{greatest-is, greatest-none}
 use Rattle.access_ages.specs.Stops.{above, below, stop_by}
 use Rattle.access_ages.proofs.Youngest.{IsUpTo}
 

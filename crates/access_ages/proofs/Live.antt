@@ -7,18 +7,13 @@ use Rattle.mdb_base.specs.declared.names.Tid.{Tid}
 use Rattle.mdb_base.specs.declared.replies.Reply.TheVariants as Reply_is
 use Rattle.mdb_base.specs.Names.{same_tid}
 use Rattle.mdb_base.specs.Words.{holds_of, map_some}
-use Rattle.mdb_base.proofs.NameLaws.{same_tid-equal}
-use Rattle.mdb_base.proofs.ListLaws.{each_all}
-use Rattle.mdb_base.proofs.BoolLaws.{and_false}
+use Rattle.mdb_base.proofs.ForCallers.{and_false, each_all, same_tid-equal}
 use Rattle.fed_rules.specs.Runs.{Start, EngineLine, Begins, Acts, Takes, Seals, Refuses, Commits, Aborts, Run, tid_of, restored, run_at, has_ticket, is_sealed}
 use Rattle.fed_rules.specs.Replies.{age_of}
 use Rattle.fed_rules.specs.EngineLines.{IsStart, IsRightLine, IsRight}
 use Rattle.engine_laws.specs.Unended.{EachRun}
-use Rattle.engine_laws.proofs.Runs.{may_wait, Own, begins, stays, got, wrote, takes, seals, own, each_run, each_restored, tid_is}
-use Rattle.engine_laws.proofs.Takers.{IsTaker, HasOneTaker}
-use Rattle.engine_laws.proofs.AgeRuns.{IsByAge}
-use Rattle.engine_laws.proofs.AgeTickets.{age_one_taker}
-use Rattle.fed_rules.proofs.RunLines.{run_at_other, run_at_own}
+use Rattle.engine_laws.proofs.ForCallers.{HasOneTaker, IsByAge, IsTaker, Own, age_one_taker, begins, each_restored, each_run, got, may_wait, own, seals, stays, takes, tid_is, wrote}
+use Rattle.fed_rules.proofs.ForCallers.{run_at_other, run_at_own}
 use Rattle.run_book.specs.declared.rival.Rival.{Rival}
 use Rattle.run_book.specs.Rivals.{rival_by}
 use Rattle.access_ages.specs.Takers.{takes_ticket}

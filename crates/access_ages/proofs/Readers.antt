@@ -10,17 +10,14 @@ use Rattle.mdb_base.specs.declared.replies.Reply.{Reply}
 use Rattle.mdb_base.specs.declared.replies.Reply.TheVariants as Reply_is
 use Rattle.mdb_base.specs.Names.{same_tid, same_key}
 use Rattle.mdb_base.specs.Words.{Each, with_some, map_some}
-use Rattle.mdb_base.proofs.NameLaws.{same_tid-equal}
-use Rattle.mdb_base.proofs.ListLaws.{each_map, each_all}
+use Rattle.mdb_base.proofs.ForCallers.{each_all, each_map, same_tid-equal}
 use Rattle.fed_rules.specs.Runs.{Start, EngineLine, Begins, Acts, Takes, Seals, Refuses, Commits, Aborts, Got, Run, tid_of, restored, run_at, committed, aborted, gives_up}
 use Rattle.fed_rules.specs.Replies.{age_of, has_read}
 use Rattle.fed_rules.specs.EngineLines.{IsRightLine, IsRight}
 use Rattle.engine_laws.specs.ReplyLaws.{IsUnended, IsAmong}
 use Rattle.engine_laws.specs.Unended.{EachRun}
-use Rattle.engine_laws.proofs.Runs.{Own, begins, stays, got, wrote, takes, seals, own, each_run, each_restored, each_committed, tid_is}
-use Rattle.engine_laws.proofs.Drawers.{each_aborted}
-use Rattle.fed_rules.proofs.RunLines.{run_at_other, run_at_own}
-use Rattle.engine_laws.proofs.Conflicts.{read_none}
+use Rattle.engine_laws.proofs.ForCallers.{Own, begins, each_aborted, each_committed, each_restored, each_run, got, own, read_none, seals, stays, takes, tid_is, wrote}
+use Rattle.fed_rules.proofs.ForCallers.{run_at_other, run_at_own}
 use Rattle.run_book.specs.declared.rival.Rival.{Rival}
 use Rattle.run_book.specs.Rivals.{rival_by}
 use Rattle.access_ages.specs.Ages.{younger_of}

@@ -8,16 +8,12 @@ use Rattle.mdb_base.specs.declared.acts.PlainAct.{PlainAct}
 use Rattle.mdb_base.specs.declared.acts.PlainAct.TheVariants.{Read, Write}
 use Rattle.mdb_base.specs.Names.{same_key}
 use Rattle.mdb_base.specs.Words.{some_of, map_some, greatest}
-use Rattle.mdb_base.proofs.ListLaws.{each_among, some_among, among_some}
+use Rattle.mdb_base.proofs.ForCallers.{among_some, each_among, some_among}
 use Rattle.fed_rules.specs.Runs.{Start, EngineLine, Access, Got, Wrote, Run, run_at, committed, aborted}
 use Rattle.fed_rules.specs.Replies.{age_of, key_of, conflicts, conflicts_with_read, reads, writes, has_read, has_written, late_or_wait, younger_in_the_way, older_writers, age_stop}
 use Rattle.fed_rules.specs.EngineLines.{IsStart, IsRight}
 use Rattle.engine_laws.specs.ReplyLaws.{IsUnended, IsAmong, HasConflict, HasReadConflict, HasWritten, IsYoungerInTheWay, IsOlderWriter}
-use Rattle.engine_laws.proofs.Drawers.{all_drew, same_age}
-use Rattle.engine_laws.proofs.AgeRuns.{IsByAge, age_sound}
-use Rattle.engine_laws.proofs.Runs.{tid_is}
-use Rattle.engine_laws.proofs.TimestampReplies.{lists_younger, lists_older, drew_younger, one_writer}
-use Rattle.engine_laws.proofs.Conflicts.{read_conflicts, write_conflicts}
+use Rattle.engine_laws.proofs.ForCallers.{IsByAge, age_sound, all_drew, drew_younger, lists_older, lists_younger, one_writer, read_conflicts, same_age, tid_is, write_conflicts}
 use Rattle.run_book.specs.declared.rival.Rival.{Rival}
 use Rattle.run_book.specs.Rivals.{rival_by}
 use Rattle.access_ages.specs.declared.key_ages.KeyAges.{KeyAges}

@@ -14,10 +14,9 @@ use Rattle.mdb_base.specs.Words.{map_some, holds_of}
 use Rattle.fed_rules.specs.Runs.{Start, EngineLine, Begins, Acts, Takes, Seals, Refuses, Commits, Aborts, Run, tid_of, run_at, gives_up, has_ticket, is_sealed}
 use Rattle.fed_rules.specs.Replies.{age_of, has_written}
 use Rattle.fed_rules.specs.EngineLines.{IsStart, IsRight}
-use Rattle.engine_laws.proofs.AgeRuns.{IsByAge}
+use Rattle.engine_laws.proofs.ForCallers.{IsByAge, tid_is}
 use Rattle.run_book.specs.declared.rival.Rival.{Rival}
 use Rattle.run_book.specs.Rivals.{rival_by}
-use Rattle.engine_laws.proofs.Runs.{tid_is}
 use Rattle.access_ages.specs.declared.key_ages.KeyAges.{KeyAges}
 use Rattle.access_ages.specs.Ages.{Ages, ages_of, younger_of, with_reader, with_writer, settled, unwritten}
 use Rattle.access_ages.specs.Takers.{ByAge, Takers, with_taker, takes_ticket, without_taker, with_committed, committed_taker}

@@ -4,17 +4,12 @@ use Rattle.std.specs.FinMap.{get}
 use Rattle.mdb_base.specs.declared.names.Engine.{Engine}
 use Rattle.mdb_base.specs.declared.names.Tid.{Tid}
 use Rattle.mdb_base.specs.Words.{map_some, greatest}
-use Rattle.mdb_base.proofs.ListLaws.{each_among}
+use Rattle.mdb_base.proofs.ForCallers.{each_among}
 use Rattle.fed_rules.specs.Runs.{Start, EngineLine, Run, run_at, committed, has_ticket, is_sealed}
 use Rattle.fed_rules.specs.Replies.{age_of, younger_takers, older_takers}
 use Rattle.fed_rules.specs.EngineLines.{IsStart, IsRight}
 use Rattle.engine_laws.specs.ReplyLaws.{IsUnended, IsAmong, HasTaken, IsYoungerTaker, IsOlderTaker}
-use Rattle.engine_laws.proofs.Drawers.{all_drew, same_age}
-use Rattle.engine_laws.proofs.AgeRuns.{IsByAge}
-use Rattle.engine_laws.proofs.AgeTickets.{age_one_taker}
-use Rattle.engine_laws.proofs.LockingReplies.{taken_from}
-use Rattle.engine_laws.proofs.Runs.{tid_is}
-use Rattle.engine_laws.proofs.TimestampReplies.{lists_younger_takers, lists_older_takers, drew_taker, one_taker}
+use Rattle.engine_laws.proofs.ForCallers.{IsByAge, age_one_taker, all_drew, drew_taker, lists_older_takers, lists_younger_takers, one_taker, same_age, taken_from, tid_is}
 use Rattle.run_book.specs.declared.rival.Rival.{Rival}
 use Rattle.run_book.specs.Rivals.{rival_by}
 use Rattle.access_ages.specs.Ages.{younger_of}

@@ -8,17 +8,16 @@ use Rattle.mdb_base.specs.declared.names.Tid.{Tid}
 use Rattle.mdb_base.specs.declared.replies.Reply.TheVariants as Reply_is
 use Rattle.mdb_base.specs.Names.{same_tid}
 use Rattle.mdb_base.specs.Words.{Each, map_some}
-use Rattle.mdb_base.proofs.NameLaws.{same_tid-equal, same_tid-refl}
-use Rattle.mdb_base.proofs.NumberLaws.{not_equal}
+use Rattle.mdb_base.proofs.ForCallers.{not_equal, same_tid-equal, same_tid-refl}
 use Rattle.fed_rules.specs.declared.runs.Kept.{Kept}
 use Rattle.fed_rules.specs.Runs.{Start, EngineLine, Takes, Run, tid_of, restored, restored_at, run_at, has_ticket}
 use Rattle.fed_rules.specs.Replies.{age_of}
 use Rattle.fed_rules.specs.EngineLines.{IsStart, IsRightLine, IsRight, AreApart, AllApart}
 use Rattle.engine_laws.specs.Unended.{EachRun}
-use Rattle.engine_laws.proofs.Runs.{Own, begins, stays, got, wrote, takes, seals, own, each_run, tid_is}
-use Rattle.fed_rules.proofs.RunLines.{run_at_other, run_at_own}
+use Rattle.engine_laws.proofs.ForCallers.{Own, begins, each_run, got, own, seals, stays, takes, tid_is, wrote}
+use Rattle.fed_rules.proofs.ForCallers.{run_at_other, run_at_own}
 use Rattle.run_book.specs.Rivals.{rival_by}
-use Rattle.run_book.proofs.Ages.{ages-differ}
+use Rattle.run_book.proofs.ForCallers.{ages-differ}
 use Rattle.access_ages.specs.Ages.{rival_of}
 use Rattle.access_ages.specs.Takers.{ByAge, with_taker, restored_takers}
 use Rattle.access_ages.specs.Lines.{rival_at, ends, taken_by, taken_at, left_by, unended_takers}

@@ -8,7 +8,7 @@ use Rattle.std.specs.BTreeMap.{is_at}
 use Rattle.std.proofs.lemmas.Bool.{eqb-true}
 use Rattle.std.proofs.lemmas.Bool.Decides.{nat_tests}
 use Rattle.mdb_base.specs.declared.names.Tid.{Tid}
-use Rattle.mdb_base.proofs.OptionLaws.{is_some-true}
+use Rattle.mdb_base.proofs.ForCallers.{is_some-true}
 use Rattle.access_ages.specs.Takers.{IsYoungestOf}
 
 -- what a look-up in the tree finds

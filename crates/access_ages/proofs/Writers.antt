@@ -11,18 +11,14 @@ use Rattle.mdb_base.specs.declared.replies.Reply.{Reply}
 use Rattle.mdb_base.specs.declared.replies.Reply.TheVariants as Reply_is
 use Rattle.mdb_base.specs.Names.{same_tid, same_key}
 use Rattle.mdb_base.specs.Words.{Each, holds_of, map_some}
-use Rattle.mdb_base.proofs.NameLaws.{same_tid-equal, same_tid-refl}
-use Rattle.mdb_base.proofs.ListLaws.{some_among}
+use Rattle.mdb_base.proofs.ForCallers.{same_tid-equal, same_tid-refl, some_among}
 use Rattle.fed_rules.specs.declared.runs.Kept.{Kept}
 use Rattle.fed_rules.specs.Runs.{Start, EngineLine, Begins, Acts, Takes, Seals, Refuses, Commits, Aborts, Wrote, Run, tid_of, restored, restored_at, run_at}
 use Rattle.fed_rules.specs.Replies.{age_of, writes, has_written}
 use Rattle.fed_rules.specs.EngineLines.{IsStart, IsRightLine, IsRight, AreApart, AllApart, has_row}
 use Rattle.engine_laws.specs.Unended.{EachRun}
-use Rattle.engine_laws.proofs.Runs.{Own, begins, stays, got, wrote, takes, seals, own, each_run, tid_is}
-use Rattle.engine_laws.proofs.AgeRuns.{IsByAge, age_sound}
-use Rattle.engine_laws.proofs.TimestampReplies.{one_writer}
-use Rattle.fed_rules.proofs.RunLines.{run_at_other, run_at_own}
-use Rattle.engine_laws.proofs.Conflicts.{written_rows}
+use Rattle.engine_laws.proofs.ForCallers.{IsByAge, Own, age_sound, begins, each_run, got, one_writer, own, seals, stays, takes, tid_is, written_rows, wrote}
+use Rattle.fed_rules.proofs.ForCallers.{run_at_other, run_at_own}
 use Rattle.run_book.specs.declared.rival.Rival.{Rival}
 use Rattle.run_book.specs.Rivals.{rival_by}
 use Rattle.access_ages.specs.Ages.{rival_of, restored_writer}

@@ -12,9 +12,7 @@ use Rattle.frame_journal.specs.Journal.{EndsWith, IsKeptOn, Kept, NotesOrNot, wi
 use Rattle.frame_journal.specs.Records.{Entry, AreRecordsOf, as_written, before_last, entry_frame, last_alone, records_within, spelled, spelled_size, values}
 use Rattle.journal_rules.specs.Stands.{CountsFrames, StandsFor, record_frame, respelled}
 use Rattle.journal_rules.specs.Torn.{IsTornBy}
-use Rattle.journal_rules.proofs.Journals.{written_frames, written_values}
-use Rattle.journal_rules.proofs.Keeps.{journal_stands}
-use Rattle.journal_rules.proofs.Respelling.{front_held, front_within, kept_respelled, new_front, new_length, old_size, respelled_append, respelled_appends, respelled_cuts, respelled_frames, respelled_is, respelled_journal, respelled_seen, respelled_stop, respelled_sync, respelled_syncs, respelled_trim, size_append, size_respelled, size_stands, values_front}
+use Rattle.journal_rules.proofs.ForCallers.{front_held, front_within, journal_stands, kept_respelled, new_front, new_length, old_size, respelled_append, respelled_appends, respelled_cuts, respelled_frames, respelled_is, respelled_journal, respelled_seen, respelled_stop, respelled_sync, respelled_syncs, respelled_trim, size_append, size_respelled, size_stands, values_front, written_frames, written_values}
 use Rattle.actor_store.specs.declared.store.Standing.{Standing}
 use Rattle.actor_store.specs.declared.store.Standing.TheVariants.{Up, Down, Failing}
 use Rattle.actor_store.specs.Store.{HoldsBytes, IsFirmFront, IsInOrder, Keeps, KeepsBehind, Old, Passes, Stored, StopsWith, entries_behind, is_failing, is_up, old_standing, stopped_disk, taken_as, untrimmed}

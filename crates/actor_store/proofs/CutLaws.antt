@@ -8,12 +8,10 @@ use Rattle.journal_disk.specs.Disk.{Image, Seen, cut_to, kept_bytes, synced_byte
 use Rattle.frame_journal.specs.Journal.{Kept, IsKeptOn}
 use Rattle.frame_journal.specs.Records.{AreRecordsOf, entry_frame, spelled, spelled_size, values}
 use Rattle.std.specs.List.{AllByRecursion}
-use Rattle.frame_journal.proofs.Keeping.{cut_image}
+use Rattle.frame_journal.proofs.ForCallers.{cut_image}
 use Rattle.journal_rules.specs.Stands.{CountsFrames, StandsFor}
 use Rattle.journal_rules.specs.Torn.{IsTornBy}
-use Rattle.journal_rules.proofs.Keeps.{call_stands}
-use Rattle.journal_rules.proofs.Journals.{whole_follows}
-use Rattle.journal_rules.proofs.Torn.{call_torn}
+use Rattle.journal_rules.proofs.ForCallers.{call_stands, call_torn, whole_follows}
 use Rattle.actor_store.specs.declared.store.Standing.TheVariants.{Up, Down, Failing}
 use Rattle.actor_store.specs.Store.{Stored, Keeps, is_failing, is_up, taken_as, stopped_disk}
 use Rattle.actor_store.proofs.StoreLaws.{built, failing_keeps, kept_taken, settled, sizes, sound_stands, sound_torn, taken, taken_bytes}

@@ -8,25 +8,20 @@ use Rattle.fed_rules.specs.Found.{Journal}
 use Rattle.fed_rules.specs.Happenings.{Trip}
 use Rattle.journal_disk.specs.Disk.{Image, Seen}
 use Rattle.journal_disk.specs.Frames.{AreRight, AreWhole, Frame, IsFrame, IsPayload, IsRight, frame, frames}
-use Rattle.journal_disk.proofs.Whole.{written_is_frame}
+use Rattle.journal_disk.proofs.ForCallers.{written_is_frame}
 use Rattle.frame_journal.specs.Journal.{IsKeptOn, Kept}
 use Rattle.frame_journal.specs.Records.{Entry, AreRecordsOf, as_written, entry_frame, spelled, spelled_size, values}
-use Rattle.frame_journal.proofs.Apart.{one_list}
-use Rattle.frame_journal.proofs.Keeping.{length-frames, frames_append}
+use Rattle.frame_journal.proofs.ForCallers.{frames_append, length-frames, new_size, one_list}
 use Rattle.journal_rules.specs.Stands.{CountsFrames, StandsFor, record_frame, respelled}
 use Rattle.journal_rules.specs.Torn.{IsPartOf, IsRestOf, IsTornBy, rest_of}
 use Rattle.std.proofs.lemmas.Bool.{lt-ltb}
-use Rattle.frame_journal.proofs.Entries.{new_size}
-use Rattle.journal_rules.proofs.Journals.{bytes_of_append, all_reverse, all_standing, written_frames, written_values}
-use Rattle.journal_rules.proofs.Respelling.{kept_respelled, respelled_journal, respelled_seen, values_front}
-use Rattle.journal_rules.proofs.Keeps.{journal_is, journal_stands, sizes_agree}
-use Rattle.journal_rules.proofs.Torn.{part_none, untorn_rest}
+use Rattle.journal_rules.proofs.ForCallers.{all_reverse, all_standing, bytes_of_append, journal_is, journal_stands, kept_respelled, part_none, respelled_journal, respelled_seen, sizes_agree, untorn_rest, values_front, written_frames, written_values}
 use Rattle.actor_store.specs.declared.store.Standing.TheVariants.{Down}
 use Rattle.actor_store.specs.Found.{IsFoundIn}
 use Rattle.actor_store.specs.Store.{IsFirmFront, IsFoundBehind, IsFoundFront, KeepsBehind, Old, Stored, none_old, old_standing, untrimmed}
 use Rattle.actor_store.proofs.BehindLaws.{all_respelled, down_synced, firm_front, unstar}
 use Rattle.actor_store.proofs.StoreLaws.{built}
-use Rattle.mdb_base.proofs.EachLaws.{all_append}
+use Rattle.mdb_base.proofs.ForCallers.{all_append}
 
 -- right frames behind right ones
 whole_both : (before found : List Frame) (bytes : List ℕ) → AreRight before → AreWhole bytes found → AreWhole (frames before ++ bytes) (before ++ found)

@@ -1,9 +1,10 @@
-pub mod StoreLaws
-pub mod CutLaws
-pub mod EndsLaws
-pub mod FoundLaws
-pub mod TrimLaws
-pub mod NewLaws
-pub mod TripLaws
-pub mod BehindLaws
-pub mod FromLaws
+pub mod ForCallers
+mod StoreLaws
+mod CutLaws
+mod EndsLaws
+mod FoundLaws
+mod TrimLaws
+mod NewLaws
+mod TripLaws
+mod BehindLaws
+mod FromLaws

@@ -4,11 +4,10 @@ use Rattle.std.proofs.lemmas.List.{nil_from_length}
 use Rattle.fed_rules.specs.Disk.{empty_disk}
 use Rattle.journal_disk.specs.Disk.{Image, Seen, IsSound, no_bytes}
 use Rattle.frame_journal.specs.Journal.{new_journal}
-use Rattle.frame_journal.proofs.Keeping.{new_is_kept}
+use Rattle.frame_journal.proofs.ForCallers.{new_is_kept}
 use Rattle.journal_rules.specs.Stands.{CountsFrames, StandsFor}
 use Rattle.journal_rules.specs.Torn.{IsTornBy}
-use Rattle.journal_rules.proofs.Keeps.{from_empty}
-use Rattle.journal_rules.proofs.Torn.{empty_torn}
+use Rattle.journal_rules.proofs.ForCallers.{empty_torn, from_empty}
 use Rattle.actor_store.specs.declared.store.Standing.TheVariants.{Up}
 use Rattle.actor_store.specs.Store.{Keeps}
 use Rattle.actor_store.proofs.StoreLaws.{built}

@@ -13,9 +13,7 @@ use Rattle.frame_journal.specs.Journal.{Kept, IsKeptOn, NotesOrNot, with_entry}
 use Rattle.frame_journal.specs.Records.{Entry, as_written, entry_frame, spelled_size, values}
 use Rattle.journal_rules.specs.Stands.{CountsFrames, StandsFor}
 use Rattle.journal_rules.specs.Torn.{IsRestOf, IsTornBy}
-use Rattle.journal_rules.proofs.Keeps.{call_stands}
-use Rattle.journal_rules.proofs.Journals.{all_whole, entries_follow, torn_follows, written_values}
-use Rattle.journal_rules.proofs.Torn.{call_torn}
+use Rattle.journal_rules.proofs.ForCallers.{all_whole, call_stands, call_torn, entries_follow, torn_follows, written_values}
 use Rattle.actor_store.specs.declared.store.SetTrip.{SetTrip}
 use Rattle.actor_store.specs.declared.store.Standing.{Standing}
 use Rattle.actor_store.specs.declared.store.Standing.TheVariants.{Up, Down, Failing}

@@ -9,12 +9,10 @@ use Rattle.journal_disk.specs.Disk.{Image, Seen, kept_bytes, trimmed_to}
 use Rattle.journal_disk.specs.Frames.{frames_size}
 use Rattle.frame_journal.specs.Journal.{Kept, EndsWith, IsKeptOn}
 use Rattle.frame_journal.specs.Records.{Entry, as_written, before_last, entry_frame, last_alone, spelled_size, values}
-use Rattle.frame_journal.proofs.Sizes.{size_split}
+use Rattle.frame_journal.proofs.ForCallers.{size_split}
 use Rattle.journal_rules.specs.Stands.{CountsFrames, StandsFor}
 use Rattle.journal_rules.specs.Torn.{IsTornBy}
-use Rattle.journal_rules.proofs.Keeps.{call_stands, journal_is, sizes_agree}
-use Rattle.journal_rules.proofs.Journals.{before_last_push, bytes_of_append, written_frames}
-use Rattle.journal_rules.proofs.Torn.{call_torn}
+use Rattle.journal_rules.proofs.ForCallers.{before_last_push, bytes_of_append, call_stands, call_torn, journal_is, sizes_agree, written_frames}
 use Rattle.actor_store.specs.declared.store.Standing.{Standing}
 use Rattle.actor_store.specs.declared.store.Standing.TheVariants.{Up, Down, Failing}
 use Rattle.actor_store.specs.Store.{Stored, IsInOrder, Keeps, is_failing, taken_as, stopped_disk}

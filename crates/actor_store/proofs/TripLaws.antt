@@ -1,7 +1,7 @@
 -- A trip as the rules say it.
 use Rattle.std.proofs.Common.{◌≡◌, ℕ, ◌==◌, Bool, true, false, cond, Option, Some, None, refl}
 use Rattle.mdb_base.specs.Words.{map_some}
-use Rattle.mdb_base.proofs.NumberLaws.{positive}
+use Rattle.mdb_base.proofs.ForCallers.{positive}
 use Rattle.fed_rules.specs.Happenings.{Trip, set}
 use Rattle.actor_store.specs.Store.{trip_of_rules, trip_to, IsArmed}
 

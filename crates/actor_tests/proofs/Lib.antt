@@ -1,4 +1,4 @@
-pub mod GlobalSessions
-pub mod LocalSessions
-pub mod Reopened
-pub mod SiteSessions
+mod GlobalSessions
+mod LocalSessions
+mod Reopened
+mod SiteSessions

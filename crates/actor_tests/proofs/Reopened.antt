@@ -12,7 +12,7 @@ use Rattle.fed_rules.specs.Found.{Journal}
 use Rattle.fed_rules.specs.Reopened.{first_of, home_by, opened_site}
 use Rattle.fed_rules.specs.SiteRecords.{Home, site_frame}
 use Rattle.fed_rules.specs.Usable.{IsUsableCoordinator, IsUsableSite, home_of_first}
-use Rattle.usable_journals.proofs.SiteReflected.{first_is, split}
+use Rattle.usable_journals.proofs.ForCallers.{first_is, split}
 use Rattle.journal_disk.specs.declared.frames.Version.{Version}
 use Rattle.journal_disk.specs.declared.frames.Version.TheVariants.{First, Second}
 use Rattle.journal_disk.specs.declared.mem_disk.MemDisk.{MemDisk}
@@ -21,10 +21,10 @@ use Rattle.journal_disk.specs.Frames.{frame_in, frame_size, written}
 use Rattle.journal_disk.specs.MemDisk.{mem_image}
 use Rattle.frame_journal.specs.Journal.{IsKeptOn, Kept, records}
 use Rattle.frame_journal.specs.Records.{Entry, entry_frame, spelled_size, values}
-use Rattle.frame_journal.proofs.Entries.{new_size, old_size}
+use Rattle.frame_journal.proofs.ForCallers.{new_size, old_size}
 use Rattle.journal_rules.specs.Stands.{record_frame}
-use Rattle.journal_rules.proofs.Keeps.{sizes_agree}
-use Rattle.actor_store.proofs.FoundLaws.{read_in}
+use Rattle.journal_rules.proofs.ForCallers.{sizes_agree}
+use Rattle.actor_store.proofs.ForCallers.{read_in}
 use Rattle.site_journal.specs.Exact as Site_exact
 use Rattle.site_journal.specs.Frames as Site_frames
 use Rattle.site_journal.specs.Spelling as Sites
@@ -38,7 +38,7 @@ use Rattle.site_core.specs.Sessions.{mem_seen}
 use Rattle.local_dbms.specs.declared.dbms.LocalDbms.{LocalDbms}
 use Rattle.local_dbms.specs.Found.{found_programs}
 use Rattle.local_dbms.specs.Stands.{Stands}
-use Rattle.local_dbms.proofs.OpenedOwned.{opened_short}
+use Rattle.local_dbms.proofs.ForCallers.{opened_short}
 use Rattle.coord_core.specs.Found as Coord
 use Rattle.actor_tests.specs.LocalSessions.{HasJournal, IsOfLines}
 

@@ -12,7 +12,7 @@ use Rattle.fed_rules.specs.Runs.{Access, Got, Run, counter, published}
 use Rattle.fed_rules.specs.Site.{site_past}
 use Rattle.fed_rules.specs.SitePast.{SitePast, attempts_of, engine_lines, epoch, epoch_start, live}
 use Rattle.fed_rules.specs.SiteRecords.{Home}
-use Rattle.fed_rules.proofs.Opened.{opened}
+use Rattle.fed_rules.proofs.ForCallers.{opened}
 use Rattle.site_core.specs.Made.{was_begun, was_global, was_local}
 use Rattle.actor_tests.specs.SiteSessions.{first, locking_home, read_five, second, stopped_events, stopped_past, write_five}
 use Rattle.site_core.specs.Steps.{CanAct, CanBegin, CanCommit, CanTakeTicket, CanWork, EpochFits, HasFewAccesses, NumberFits}

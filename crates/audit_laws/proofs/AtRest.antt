@@ -1,7 +1,7 @@
 -- The test for rest looks at the declared sites alone: at another one nothing happens.
 use Rattle.std.proofs.Common.{◌≡◌, true, Option, Some, None, List, refl, ap}
 use Rattle.mdb_base.specs.declared.names.SiteId.{SiteId}
-use Rattle.order_laws.proofs.Lists.{each_at, each_from}
+use Rattle.order_laws.proofs.ForCallers.{each_at, each_from}
 use Rattle.fed_rules.specs.declared.commands.Command.{Command}
 use Rattle.fed_rules.specs.declared.scenario.Scenario.{Scenario}
 use Rattle.fed_rules.specs.Closing.{live_at, in_doubt_at}
@@ -11,11 +11,11 @@ use Rattle.fed_rules.specs.SitePast.{trip}
 use Rattle.fed_rules.specs.SiteRecords.{Home}
 use Rattle.fed_rules.specs.Story.{Story, story_of}
 use Rattle.closing_laws.specs.AtRest.{IsAtRest}
-use Rattle.commit_laws.proofs.Walks.{undeclared}
-use Rattle.federation_laws.proofs.Declared.{declared-in}
+use Rattle.commit_laws.proofs.ForCallers.{undeclared}
+use Rattle.federation_laws.proofs.ForCallers.{declared-in}
 use Rattle.audit_rules.specs.Agreements.{SiteRests, Rests}
 use Rattle.audit_rules.specs.Ends.{rests}
-use Rattle.audit_rules.proofs.Endings.{rest_means, rest_passes}
+use Rattle.audit_rules.proofs.ForCallers.{rest_means, rest_passes}
 
 each_rests : (scenario : Scenario) (commands : List Command) → Rests scenario (story_of scenario commands) → (site : SiteId) → SiteRests scenario (story_of scenario commands) site
 each_rests scenario commands r site = by_home (home_of scenario site) refl where

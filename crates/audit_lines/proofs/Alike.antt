@@ -5,7 +5,7 @@ use Rattle.fed_rules.specs.declared.answers.Answer.TheVariants as Say
 use Rattle.fed_rules.specs.declared.answers.Cause.TheVariants as For
 use Rattle.audit_rules.specs.Same.{same_answer, without_edges}
 use Rattle.audit_rules.specs.Faults.{names_cycle}
-use Rattle.audit_rules.proofs.AnswersAlike.{answers_alike}
+use Rattle.audit_rules.proofs.ForCallers.{answers_alike}
 
 unlike : (b : Bool) (p q : Answer) → same_answer p q ≡ b → (p ≡ q → ⊥) → b ≡ false
 unlike true p q e f = absurd (f (answers_alike p q e))

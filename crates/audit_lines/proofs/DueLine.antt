@@ -23,7 +23,7 @@ use Rattle.audit_rules.specs.declared.verdict.What.{What}
 use Rattle.audit_rules.specs.declared.verdict.What.TheVariants as Fails
 use Rattle.audit_rules.specs.Faults.{compared, compared_at, edges_of, errs, errs_at, fault_in, may_name, names_cycle}
 use Rattle.audit_rules.specs.Same.{same_answer, same_places, without_edges}
-use Rattle.audit_rules.proofs.NextLine.{compared_alike}
+use Rattle.audit_rules.proofs.ForCallers.{compared_alike}
 use Rattle.audit_lines.specs.Compared.{TellsAt, TellsWrong, compared_in, fault_by, is_take}
 use Rattle.audit_lines.proofs.Alike.{due_is_whole, still_names}
 use Rattle.audit_lines.proofs.Takes.{IsNoTake, TookNothing, heard, takes_none}

@@ -1,8 +1,9 @@
+pub mod ForCallers
 mod Joined
-pub mod Journals
-pub mod Alike
-pub mod Takes
-pub mod DueLine
-pub mod Candidates
-pub mod Refusals
-pub mod WrongEdges
+mod Journals
+mod Alike
+mod Takes
+mod DueLine
+mod Candidates
+mod Refusals
+mod WrongEdges

@@ -10,7 +10,7 @@ use Rattle.mdb_base.specs.declared.replies.Reply.TheVariants as Reply_is
 use Rattle.mdb_base.specs.declared.replies.Why.TheVariants as Because
 use Rattle.mdb_base.specs.Names.{same_site}
 use Rattle.mdb_base.specs.Words.{some_of, when, with_some}
-use Rattle.mdb_base.proofs.NameLaws.{same_tid-refl}
+use Rattle.mdb_base.proofs.ForCallers.{same_tid-refl}
 use Rattle.presumptions.specs.declared.Participant.{Participant}
 use Rattle.order_laws.specs.Tickets.{Ticketed}
 use Rattle.fed_rules.specs.declared.answers.Answer.{Answer}
@@ -28,7 +28,7 @@ use Rattle.fed_rules.specs.Happenings.{Trip, is_down, quiet, stopped, tripped}
 use Rattle.fed_rules.specs.Policies.{Policy}
 use Rattle.fed_rules.specs.Right.{refused}
 use Rattle.coord_laws.specs.CoordRestarts.{CoordJournalSaysAll}
-use Rattle.coord_laws.proofs.MadeLines.{coord_made}
+use Rattle.coord_laws.proofs.ForCallers.{coord_made}
 use Rattle.protocol_table.specs.declared.known.Known.{Known}
 use Rattle.protocol_table.specs.Agreement.{IsUndecidedAs, voter}
 use Rattle.audit_rules.specs.Faults.{is_cycle, may_name, names_cycle}

@@ -25,7 +25,7 @@ use Rattle.fed_rules.specs.Scenarios.{global_program, home_of, local_home, polic
 use Rattle.fed_rules.specs.SiteCommands.{Verb, Begin, Step_on, Commit, Abort, Fate, request}
 use Rattle.fed_rules.specs.SiteRecords.{Home}
 use Rattle.fed_rules.specs.Story.{Story, Happened, AtSite, AtCoordinator, Nowhere, at_coordinator, at_site, coord_past, coord_requested, happens, on_local, on_go, on_fate, on_attempt, on_site, on_give, on_actor, past_of, requested, sent_to}
-use Rattle.coord_laws.proofs.MadeLines.{coord_made}
+use Rattle.coord_laws.proofs.ForCallers.{coord_made}
 use Rattle.audit_lines.specs.Compared.{is_take}
 
 -- the event isn't a message that is taken

@@ -7,11 +7,10 @@ use Rattle.mdb_base.specs.declared.names.Tid.{Tid}
 use Rattle.mdb_base.specs.declared.replies.Edge.{Edge}
 use Rattle.mdb_base.specs.Names.{same_site, same_tid}
 use Rattle.mdb_base.specs.Words.{Each, each_of, some_of}
-use Rattle.mdb_base.proofs.ListLaws.{among_some}
-use Rattle.mdb_base.proofs.NameLaws.{same_site-equal, same_site-refl, same_tid-equal, same_tid-refl}
+use Rattle.mdb_base.proofs.ForCallers.{among_some, same_site-equal, same_site-refl, same_tid-equal, same_tid-refl}
 use Rattle.order_laws.specs.Chains.{In}
 use Rattle.order_laws.specs.Tickets.{Ticketed, IsEdge, Precedes, Leads, IsCycle}
-use Rattle.order_laws.proofs.Lists.{is_among, some_of_is}
+use Rattle.order_laws.proofs.ForCallers.{is_among, some_of_is}
 use Rattle.audit_rules.specs.Faults.{precedes, is_edge, leads, is_cycle}
 
 -- the ticket of the second attempt at the site, above this one of the first

@@ -7,9 +7,7 @@ use Rattle.mdb_base.specs.Words.{those}
 use Rattle.order_laws.specs.Chains.{In, Distinct}
 use Rattle.order_laws.specs.Merge as merge
 use Rattle.order_laws.specs.Orders.{is_in}
-use Rattle.order_laws.proofs.Lists.{each_at, those_in}
-use Rattle.order_laws.proofs.Merge.{merge_names}
-use Rattle.order_laws.proofs.Names.{tells_tids}
+use Rattle.order_laws.proofs.ForCallers.{each_at, merge_names, tells_tids, those_in}
 use Rattle.fed_rules.specs.declared.commands.Line.{Line}
 use Rattle.fed_rules.specs.declared.scenario.Scenario.{Scenario}
 use Rattle.fed_rules.specs.Headline.{Headline, HeadlineOf}

@@ -7,8 +7,7 @@ use Rattle.fed_rules.specs.declared.commands.Line.{Line}
 use Rattle.fed_rules.specs.declared.report.Report.{Report}
 use Rattle.fed_rules.specs.declared.report.TxReads.{TxReads}
 use Rattle.fed_rules.specs.declared.scenario.Scenario.{Scenario}
-use Rattle.fed_rules.proofs.Opened.{opened}
-use Rattle.fed_rules.proofs.Spelled.{key, tid, get, set, site, local, scenario_of, begin, step, commit, line, entry, read_by, table}
+use Rattle.fed_rules.proofs.ForCallers.{begin, commit, entry, get, key, line, local, opened, read_by, scenario_of, set, site, step, table, tid}
 use Rattle.audit_rules.specs.declared.verdict.Verdict.TheVariants.{Agrees, Differs}
 use Rattle.audit_rules.specs.declared.verdict.What.TheVariants as Fails
 use Rattle.audit_rules.proofs.Spoken.{spoken, reported, audited, verdict_of}

@@ -5,8 +5,7 @@ use Rattle.mdb_base.specs.declared.names.SiteId.{SiteId}
 use Rattle.mdb_base.specs.declared.names.Tid.{Tid}
 use Rattle.mdb_base.specs.Names.{same_tid}
 use Rattle.mdb_base.specs.Words.{Each, each_of, those, is_empty}
-use Rattle.mdb_base.proofs.NameLaws.{same_tid-equal, same_tid-refl}
-use Rattle.mdb_base.proofs.OptionLaws.{is_none-true}
+use Rattle.mdb_base.proofs.ForCallers.{empty_means, is_none-true, same_tid-equal, same_tid-refl}
 use Rattle.order_laws.specs.Merge as merge
 use Rattle.order_laws.specs.Orders.{is_in}
 use Rattle.fed_rules.specs.declared.scenario.Scenario.{Scenario}
@@ -18,7 +17,6 @@ use Rattle.fed_rules.specs.SitePast.{trip}
 use Rattle.fed_rules.specs.Story.{Story, coord_past, past_of}
 use Rattle.audit_rules.specs.Agreements.{SiteRests, Rests}
 use Rattle.audit_rules.specs.Ends.{site_rests, rests, same_tids, merges}
-use Rattle.mdb_base.proofs.ListLaws.{empty_means}
 
 -- ---- at rest
 

@@ -1,13 +1,14 @@
-pub mod AnswersAlike
-pub mod Cycles
-pub mod NextLine
-pub mod Reasons
-pub mod Endings
-pub mod YesAgrees
-pub mod AgreementIsYes
-pub mod FirstFault
-pub mod EachMerge
-pub mod Spoken
+pub mod ForCallers
+mod AnswersAlike
+mod Cycles
+mod NextLine
+mod Reasons
+mod Endings
+mod YesAgrees
+mod AgreementIsYes
+mod FirstFault
+mod EachMerge
+mod Spoken
 mod OneLocalRun
 mod EitherOrder
 mod PrintedCycle

@@ -6,8 +6,7 @@ use Rattle.fed_rules.specs.declared.answers.Answer.TheVariants as Say
 use Rattle.fed_rules.specs.declared.commands.Line.{Line}
 use Rattle.fed_rules.specs.declared.report.Report.{Report}
 use Rattle.fed_rules.specs.declared.scenario.Scenario.{Scenario}
-use Rattle.fed_rules.proofs.Opened.{opened}
-use Rattle.fed_rules.proofs.Spelled.{key, tid, get, add, site, local, scenario_of, begin, step, commit, halt, trip, line, entry, place, read_by, table}
+use Rattle.fed_rules.proofs.ForCallers.{add, begin, commit, entry, get, halt, key, line, local, opened, place, read_by, scenario_of, site, step, table, tid, trip}
 use Rattle.audit_rules.specs.declared.verdict.Verdict.TheVariants.{Agrees, Differs}
 use Rattle.audit_rules.specs.declared.verdict.What.TheVariants as Fails
 use Rattle.audit_rules.specs.Agreement.{Neither, Last}

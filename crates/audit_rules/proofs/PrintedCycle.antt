@@ -5,9 +5,7 @@ use Rattle.presumptions.specs.declared.Decision.TheVariants as Decided
 use Rattle.fed_rules.specs.declared.answers.Answer.TheVariants as Say
 use Rattle.fed_rules.specs.declared.answers.Cause.TheVariants as For
 use Rattle.fed_rules.specs.declared.commands.Line.{Line}
-use Rattle.fed_rules.proofs.Opened.{opened}
-use Rattle.fed_rules.proofs.OppositeTickets.{scenario, printed, closing, report}
-use Rattle.fed_rules.proofs.Spelled.{tid, edge, take, line, place}
+use Rattle.fed_rules.proofs.ForCallers.{closing, edge, line, opened, place, printed, report, scenario, take, tid}
 use Rattle.audit_rules.specs.declared.verdict.Verdict.{Verdict}
 use Rattle.audit_rules.specs.declared.verdict.Verdict.TheVariants.{Agrees, Differs}
 use Rattle.audit_rules.specs.declared.verdict.What.TheVariants as Fails

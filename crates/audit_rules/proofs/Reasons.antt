@@ -2,9 +2,8 @@
 use Rattle.std.proofs.Common.{◌≡◌, ◌⊎◌, Bool, true, false, not, Option, Some, None, inl, inr, refl, subst}
 use Rattle.std.proofs.lemmas.Bool.{not-true}
 use Rattle.mdb_base.specs.Words.{when}
-use Rattle.mdb_base.proofs.OptionLaws.{some_parts}
-use Rattle.mdb_base.proofs.BoolLaws.{not_both}
-use Rattle.order_laws.proofs.Lists.{not_false}
+use Rattle.mdb_base.proofs.ForCallers.{not_both, some_parts}
+use Rattle.order_laws.proofs.ForCallers.{not_false}
 use Rattle.fed_rules.specs.declared.commands.Line.{Line}
 use Rattle.fed_rules.specs.declared.scenario.Scenario.{Scenario}
 use Rattle.fed_rules.specs.Scenarios.{protocols}

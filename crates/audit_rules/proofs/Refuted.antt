@@ -11,9 +11,8 @@ use Rattle.fed_rules.specs.declared.commands.Line.{Line}
 use Rattle.fed_rules.specs.declared.scenario.Scenario.{Scenario}
 use Rattle.fed_rules.specs.Right.{story_told}
 use Rattle.fed_rules.specs.Story.{Story}
-use Rattle.fed_rules.proofs.Opened.{opened}
-use Rattle.fed_rules.proofs.OppositeTickets as Opposite
-use Rattle.fed_rules.proofs.Spelled.{before, edge, get, line, local, place, begin, scenario_of, site, take, tid, trip}
+use Rattle.fed_rules.proofs.ForCallers.{before, begin, edge, get, line, local, opened, place, scenario_of, site, take, tid, trip}
+use Rattle.fed_rules.proofs.ForCallers as Opposite
 use Rattle.audit_rules.specs.declared.verdict.What.TheVariants as Fails
 use Rattle.audit_rules.specs.Agreement.{Printed, Says, Orders, Neither}
 use Rattle.audit_rules.specs.Agreements.{ReadsAs}

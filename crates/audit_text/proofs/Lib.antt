@@ -1,4 +1,5 @@
-pub mod Parts
-pub mod DueLines
-pub mod LastBytes
-pub mod Verdicts
+pub mod ForCallers
+mod Parts
+mod DueLines
+mod LastBytes
+mod Verdicts

@@ -4,7 +4,7 @@ use Rattle.std.proofs.Math.Seq.{take-append_seam}
 use Rattle.std.proofs.lemmas.Bool.{eqb-true}
 use Rattle.std.proofs.lemmas.Option.{none-some, same_Some}
 use Rattle.mdb_base.specs.Words.{map_some}
-use Rattle.scenario_text.proofs.PieceLemmas.{ended_line, last_line, pieces_cut, pieces_uncut}
+use Rattle.scenario_text.proofs.ForCallers.{ended_line, last_line, pieces_cut, pieces_uncut}
 use Rattle.scenario_text.specs.Pieces.{TextLine, as_lines, cut_at, lines, pieces}
 use Rattle.audit_text.specs.Cuts.{IsCut}
 use Rattle.audit_text.specs.Texts.{cut_printed, is_mark, text_of}

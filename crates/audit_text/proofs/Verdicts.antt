@@ -1,7 +1,7 @@
 -- The verdict on the lines of a report, one line further.
 use Rattle.std.proofs.Common.{◌≡◌, ℕ, suc, ◌+◌, ◌<◌, ◌≤◌, true, false, List, [], ◌∷◌, length, drop, get_or, length-drop, add-one, sym, ap, ◌∙◌, arith}
 use Rattle.std.proofs.Math.Seq.{drop-cons}
-use Rattle.mdb_base.proofs.JoinLaws.{nothing_left}
+use Rattle.mdb_base.proofs.ForCallers.{nothing_left}
 use Rattle.mdb_base.specs.Words.{when}
 use Rattle.scenario_text.specs.Pieces.{TextLine}
 use Rattle.audit_rules.specs.declared.verdict.Verdict.{Verdict}

@@ -10,7 +10,7 @@ fn first_feed(bytes: &[u8]) -> Option<usize>
 }
 
 /// The bytes before the first line feed and the bytes behind it, where there is one.
-#[tactic(auto, using(scenario_text::proofs::PieceLemmas::cuts))]
+#[tactic(auto, using(scenario_text::proofs::ForCallers::cuts))]
 fn cut_line(bytes: &[u8]) -> Option<(&[u8], &[u8])>
     ensures pieces { MatchOption result (pieces 10 bytes.now ≡ bytes.now ∷ []) (λ p. pieces 10 bytes.now ≡ p.0.now ∷ pieces 10 p.1.now) }
     ensures parts { Finds (λ p. (p.0.now, p.1.now)) result (cut_at 10 bytes.now) }
@@ -34,7 +34,7 @@ pub struct FirstLine<'a> {
 }
 
 /// The first line of a text that isn't empty.
-#[tactic(auto, using(scenario_text::proofs::PieceLemmas::ended_line, scenario_text::proofs::PieceLemmas::last_line, crate::proofs::Parts::cut_whole))]
+#[tactic(auto, using(scenario_text::proofs::ForCallers::ended_line, scenario_text::proofs::ForCallers::last_line, crate::proofs::Parts::cut_whole))]
 pub fn first_line(text: &[u8]) -> FirstLine<'_>
     requires { 0 < length text.now }
     ensures lines { lines text.now ≡ record { bytes = result.bytes.now; ended = result.ended } ∷ lines result.behind.now }

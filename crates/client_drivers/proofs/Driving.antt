@@ -1,8 +1,7 @@
 -- The steps of a driver.
 use Rattle.std.proofs.Common.{◌≡◌, ℕ, ◌+◌, ◌<◌, false, List, [], ◌∷◌, ◌++◌, length, Result, Ok, Err, IsErr, IsErrAnd, refl, ap, ◌∙◌, arith}
 use Rattle.std.proofs.lemmas.Bool.{lt-ltb}
-use Rattle.mdb_base.proofs.Words.{cond-true, cond-false}
-use Rattle.mdb_base.proofs.NumberLaws.{not_below}
+use Rattle.mdb_base.proofs.ForCallers.{cond-false, cond-true, not_below}
 use Rattle.fed_rules.specs.declared.answers.Answer.{Answer}
 use Rattle.fed_rules.specs.declared.commands.Command.{Command}
 use Rattle.line_text.specs.declared.error.DoorErr.{DoorErr}

@@ -1,4 +1,4 @@
-pub mod Driving
-pub mod LocalSteps
-pub mod GlobalSteps
-pub mod TapeSteps
+mod Driving
+mod LocalSteps
+mod GlobalSteps
+mod TapeSteps

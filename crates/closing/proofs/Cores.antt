@@ -5,7 +5,7 @@ use Rattle.std.proofs.lemmas.List.{map-append, take_more}
 use Rattle.mdb_base.specs.declared.names.SiteId.{SiteId}
 use Rattle.mdb_base.specs.declared.names.Tid.{Tid}
 use Rattle.mdb_base.specs.Words.{those}
-use Rattle.mdb_base.proofs.TestLaws.{those_append}
+use Rattle.mdb_base.proofs.ForCallers.{those_append}
 use Rattle.fed_rules.specs.declared.commands.Command.TheVariants as Cmd
 use Rattle.fed_rules.specs.SitePast.{SitePast, attempts_of, begins_tx, is_local}
 use Rattle.fed_rules.specs.declared.scenario.Scenario.{Scenario}

@@ -1,12 +1,13 @@
-pub mod Cores
-pub mod Deliveries
-pub mod FreshTowards
-pub mod Grows
-pub mod LastLine
-pub mod Listed
-pub mod Loops
-pub mod Numbered
-pub mod Parts
-pub mod RisingSites
-pub mod Towards
-pub mod World
+pub mod ForCallers
+mod Cores
+mod Deliveries
+mod FreshTowards
+mod Grows
+mod LastLine
+mod Listed
+mod Loops
+mod Numbered
+mod Parts
+mod RisingSites
+mod Towards
+mod World

@@ -5,7 +5,7 @@ use Rattle.mdb_base.specs.declared.names.Tid.{Tid}
 use Rattle.mdb_base.specs.Names.{tid_before}
 use Rattle.mdb_base.specs.Words.{Each, found, inserted, those, with_some}
 use Rattle.order_laws.specs.Chains.{Distinct, In}
-use Rattle.order_laws.proofs.InLaws.{before_irreflexive, inserted_first}
+use Rattle.order_laws.proofs.ForCallers.{before_irreflexive, inserted_first}
 use Rattle.fed_rules.specs.declared.commands.Command.{Command}
 use Rattle.fed_rules.specs.declared.records.SiteRecord.{SiteRecord}
 use Rattle.fed_rules.specs.declared.runs.Kept.{Kept}
@@ -20,18 +20,15 @@ use Rattle.fed_rules.specs.Sessions.{Session}
 use Rattle.fed_rules.specs.SitePast.{SitePast, engine_lines, epoch_start, live, live_one}
 use Rattle.fed_rules.specs.SiteRecords.{Home, Held, doubt_of, doubts, kept_held, start_of}
 use Rattle.fed_rules.specs.Story.{past_of, story_in, story_of}
-use Rattle.engine_laws.proofs.Runs.{attempts_have, tid_is}
-use Rattle.rules_laws.proofs.Declared.{home-again}
-use Rattle.rules_laws.proofs.RisingLists.{rising_one}
+use Rattle.engine_laws.proofs.ForCallers.{attempts_have, tid_is}
+use Rattle.rules_laws.proofs.ForCallers.{home-again, rising_one}
 use Rattle.site_history.specs.Stories.{StoriesHaveRightLines}
-use Rattle.site_history.proofs.Restarts.{once_doubts}
-use Rattle.site_history.proofs.Starts.{restored_doubt, restored_held}
+use Rattle.site_history.proofs.ForCallers.{once_doubts, restored_doubt, restored_held}
 use Rattle.site_book.specs.Listing.{AreRising, Lists}
 use Rattle.closing_laws.specs.Runs.{SitesBeginOnce}
-use Rattle.closing_laws.proofs.BegunOnce.{once_distinct, restored_some}
-use Rattle.closing_laws.proofs.Quiet.{none_live_at}
+use Rattle.closing_laws.proofs.ForCallers.{none_live_at, once_distinct, restored_some}
 use Rattle.found_laws.specs.FoundSessions.{AreUsable}
-use Rattle.resume_laws.proofs.FoundRests.{lives_on}
+use Rattle.resume_laws.proofs.ForCallers.{lives_on}
 use Rattle.fed_world.specs.Beginnings.{Begins}
 
 -- none of a rising list stands behind itself

@@ -9,9 +9,9 @@ use Rattle.fed_rules.specs.Found.{Found, Journal, nothing}
 use Rattle.fed_rules.specs.Scenarios.{sites}
 use Rattle.fed_rules.specs.Sessions.{Session, fresh}
 use Rattle.journal_disk.specs.Disk.{Seen}
-use Rattle.commit_laws.proofs.Walks.{undeclared}
-use Rattle.closing_laws.proofs.Ready.{UndeclaredAreSilent}
-use Rattle.found_laws.proofs.FoundSessions.{quiet}
+use Rattle.commit_laws.proofs.ForCallers.{undeclared}
+use Rattle.closing_laws.proofs.ForCallers.{UndeclaredAreSilent}
+use Rattle.found_laws.proofs.ForCallers.{quiet}
 use Rattle.fed_world.specs.declared.world.World.{World}
 use Rattle.fed_world.specs.Beginnings.{Begins, Remembers, scenario_by, scenario_of}
 use Rattle.fed_world.specs.Worlds.{HasLines, Stands}

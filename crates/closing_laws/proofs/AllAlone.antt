@@ -7,11 +7,9 @@ use Rattle.mdb_base.specs.declared.names.Tx.{Tx}
 use Rattle.mdb_base.specs.Names.{same_site, same_tx}
 use Rattle.mdb_base.specs.Programs.{IsProgram}
 use Rattle.mdb_base.specs.Words.{Each, each_of, first_where, inserted, map_some, some_of, those}
-use Rattle.mdb_base.proofs.ListLaws.{each_inserted}
-use Rattle.mdb_base.proofs.NameLaws.{same_tx-equal, same_tx-refl}
+use Rattle.mdb_base.proofs.ForCallers.{each_inserted, same_tx-equal, same_tx-refl}
 use Rattle.order_laws.specs.Chains.{In}
-use Rattle.order_laws.proofs.Lists.{each_at, each_from, each_of_at, those_in, in_those}
-use Rattle.order_laws.proofs.InLaws.{same_tx-false_back}
+use Rattle.order_laws.proofs.ForCallers.{each_at, each_from, each_of_at, in_those, same_tx-false_back, those_in}
 use Rattle.fed_rules.specs.declared.commands.Command.{Command}
 use Rattle.fed_rules.specs.declared.commands.Command.TheVariants as Cmd
 use Rattle.fed_rules.specs.declared.commands.Place.{Place}
@@ -25,7 +23,7 @@ use Rattle.fed_rules.specs.Scenarios.{global_line, global_program, home_at, home
 use Rattle.fed_rules.specs.Sessions.{fresh}
 use Rattle.fed_rules.specs.SiteRecords.{Home}
 use Rattle.fed_rules.specs.Story.{Story, story_of, most_attempts}
-use Rattle.coord_laws.proofs.Facts.{is_undecided}
+use Rattle.coord_laws.proofs.ForCallers.{is_undecided}
 use Rattle.site_history.specs.Stories.{StoriesHaveRightLines}
 use Rattle.closing_laws.specs.Alone.{GlobalsCommitAlone, IsFinished, LocalsCommitAlone}
 use Rattle.closing_laws.specs.AtRest.{IsAtRest}

@@ -7,8 +7,7 @@ use Rattle.mdb_base.specs.declared.names.Tid.{Tid}
 use Rattle.mdb_base.specs.declared.replies.Reply.TheVariants as Reply_is
 use Rattle.mdb_base.specs.Names.{same_tid}
 use Rattle.mdb_base.specs.Words.{Each}
-use Rattle.mdb_base.proofs.Words.{when-true, when-false, cond-true, cond-false}
-use Rattle.mdb_base.proofs.OptionLaws.{given_some, given_none}
+use Rattle.mdb_base.proofs.ForCallers.{cond-false, cond-true, given_none, given_some, when-false, when-true}
 use Rattle.fed_rules.specs.declared.messages.FromSite.{FromSite}
 use Rattle.fed_rules.specs.declared.messages.FromSite.TheVariants as From
 use Rattle.fed_rules.specs.declared.messages.ToSite.TheVariants as To
@@ -18,7 +17,7 @@ use Rattle.fed_rules.specs.Runs.{Start, EngineLine, Begins, Acts, Takes, Seals, 
 use Rattle.fed_rules.specs.Site.{did, first_work, next_work, next_take, is_over, work_live, of_work, take_live, of_take, votes_yes, seals_global, prepare_live, of_prepare, next_number, number_of, done}
 use Rattle.fed_rules.specs.SitePast.{SiteHappening, SitePast, records, epoch, epoch_start, engine_lines, run_of, live_one, live, is_closed, ends, trip_of}
 use Rattle.fed_rules.specs.SiteRecords.{Home, Held, doubt_of}
-use Rattle.engine_laws.proofs.AloneAt.{IsAlone, access_granted, ticket_granted, seal_free, access_of, acts_alone, takes_alone, begins_alone}
+use Rattle.engine_laws.proofs.ForCallers.{IsAlone, access_granted, access_of, acts_alone, begins_alone, seal_free, takes_alone, ticket_granted}
 use Rattle.closing_laws.proofs.LocalAlone.{alone_live}
 
 -- no run is unended, and what ended is older than what begins next

@@ -7,10 +7,9 @@ use Rattle.mdb_base.specs.declared.names.Tx.{Tx}
 use Rattle.mdb_base.specs.declared.replies.Reply.TheVariants as Reply_is
 use Rattle.mdb_base.specs.Names.{same_tid}
 use Rattle.mdb_base.specs.Words.{Each, some_of}
-use Rattle.mdb_base.proofs.NameLaws.{same_tx-refl, same_tid-refl}
+use Rattle.mdb_base.proofs.ForCallers.{same_tid-refl, same_tx-refl}
 use Rattle.order_laws.specs.Chains.{In, Distinct}
-use Rattle.order_laws.proofs.Lists.{each_at}
-use Rattle.order_laws.proofs.InLaws.{item_at-in}
+use Rattle.order_laws.proofs.ForCallers.{each_at, item_at-in}
 use Rattle.fed_rules.specs.declared.commands.Command.{Command}
 use Rattle.fed_rules.specs.declared.commands.Command.TheVariants as Cmd
 use Rattle.fed_rules.specs.declared.events.SiteEvent.{SiteEvent}
@@ -26,19 +25,11 @@ use Rattle.fed_rules.specs.SitePast.{SiteHappening, SitePast, attempts_of, begin
 use Rattle.fed_rules.specs.SiteRecords.{Home, doubts, kept_held, start_of}
 use Rattle.fed_rules.specs.Story.{past_of, sent_to, story_of}
 use Rattle.engine_laws.specs.Laws.{EachOnce}
-use Rattle.rules_laws.proofs.Declared.{home-again}
-use Rattle.rules_laws.proofs.SitePasts.{attempts_grow}
-use Rattle.site_history.proofs.About.{engine_lines-next, epoch_start-next, run_of-next}
-use Rattle.site_history.proofs.Led.{pasts_led}
+use Rattle.rules_laws.proofs.ForCallers.{attempts_grow, home-again}
+use Rattle.site_history.proofs.ForCallers.{IsKept, IsSortedRecord, engine_lines-next, epoch_start-next, local_is, no_local_doubt, once_doubts, pasts_led, restored_doubt, restored_held, run_of-next, sorted_past, sorted_story}
 use Rattle.site_history.specs.Led.{Allows, AllAllow, IsAsked, IsLed}
 use Rattle.site_history.specs.Events.{AreSorted, IsSorted}
 use Rattle.site_history.specs.Stories.{is_local}
-use Rattle.site_history.proofs.Agreement.{IsKept}
-use Rattle.site_history.proofs.Histories.{IsSortedRecord, no_local_doubt}
-use Rattle.site_history.proofs.Restarts.{once_doubts}
-use Rattle.site_history.proofs.SortedPasts.{sorted_past}
-use Rattle.site_history.proofs.SortedStories.{sorted_story, local_is}
-use Rattle.site_history.proofs.Starts.{restored_doubt, restored_held}
 use Rattle.closing_laws.specs.Runs.{SitesBeginOnce}
 use Rattle.closing_laws.proofs.Growth.{Growth, Renews, Stays, Next, First, IsNumbered, IsPlain, line_grows}
 

@@ -3,8 +3,7 @@ use Rattle.std.proofs.Common.{◌≡◌, ℕ, suc, ◌+◌, ◌*◌, ◌≤◌, 
 use Rattle.mdb_base.specs.declared.names.SiteId.{SiteId}
 use Rattle.mdb_base.specs.declared.names.Tid.{Tid}
 use Rattle.mdb_base.specs.Words.{those}
-use Rattle.mdb_base.proofs.JoinLaws.{length-map}
-use Rattle.mdb_base.proofs.TestLaws.{length_those}
+use Rattle.mdb_base.proofs.ForCallers.{length-map, length_those}
 use Rattle.presumptions.specs.declared.Participant.{Participant}
 use Rattle.fed_rules.specs.declared.commands.Command.{Command}
 use Rattle.fed_rules.specs.declared.commands.Command.TheVariants as Cmd
@@ -18,7 +17,7 @@ use Rattle.fed_rules.specs.Scenarios.{home_of, protocols, sites}
 use Rattle.fed_rules.specs.Sessions.{Session, fresh}
 use Rattle.fed_rules.specs.SitePast.{SitePast, is_local, trip}
 use Rattle.fed_rules.specs.Story.{Story, coord_past, past_of, story_in}
-use Rattle.commit_laws.proofs.FoundSessions.{CoordinatorFits, fresh_fits}
+use Rattle.commit_laws.proofs.ForCallers.{CoordinatorFits, fresh_fits}
 use Rattle.closing_laws.specs.Bound.{ClosingIsShort, most_closing}
 use Rattle.closing_laws.proofs.FewAttempts.{begun_few, doubt_few, live_few}
 use Rattle.closing_laws.proofs.FewSites.{at_most_eight}

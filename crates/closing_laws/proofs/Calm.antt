@@ -7,7 +7,7 @@ use Rattle.mdb_base.specs.declared.names.Tid.{Tid}
 use Rattle.mdb_base.specs.declared.names.Tx.{Tx}
 use Rattle.mdb_base.specs.Names.{same_tid}
 use Rattle.mdb_base.specs.Words.{when, given}
-use Rattle.mdb_base.proofs.Words.{when-false, cond-true, cond-false}
+use Rattle.mdb_base.proofs.ForCallers.{cond-false, cond-true, when-false}
 use Rattle.presumptions.specs.declared.Decision.{Decision}
 use Rattle.presumptions.specs.declared.Participant.{Participant}
 use Rattle.fed_rules.specs.declared.answers.Answer.{Answer}
@@ -31,13 +31,12 @@ use Rattle.fed_rules.specs.SitePast.{SiteHappening, SitePast, disk, records, epo
 use Rattle.fed_rules.specs.SiteRecords.{Home, Held, site_frame, doubt_of}
 use Rattle.rules_laws.specs.Durable.{IsFirm}
 use Rattle.coord_laws.specs.Records.{IsEnd}
-use Rattle.coord_laws.proofs.Facts.{Same, Starts, Decides, Forgets, Restarts, is_undecided}
-use Rattle.coord_laws.proofs.Lines.{Stood, Stopped, Through, coord_lines}
-use Rattle.federation_laws.proofs.SiteMoves.{live-next}
+use Rattle.coord_laws.proofs.ForCallers.{Decides, Forgets, Restarts, Same, Starts, Stood, Stopped, Through, coord_lines, is_undecided}
+use Rattle.federation_laws.proofs.ForCallers.{live-next}
 use Rattle.fed_rules.specs.Policies.{Policy}
-use Rattle.engine_laws.proofs.RunLines.{abort_ends}
-use Rattle.rules_laws.proofs.CoordPasts.{IsNoGo}
-use Rattle.commit_laws.proofs.SiteEnds.{settling-ends, settles-records}
+use Rattle.engine_laws.proofs.ForCallers.{abort_ends}
+use Rattle.rules_laws.proofs.ForCallers.{IsNoGo}
+use Rattle.commit_laws.proofs.ForCallers.{settles-records, settling-ends}
 
 -- an actor is up, and no trip is armed
 pub record IsReady {Event Message Record : Type 0} (trip_in : Event → Option Trip) (past : List (Happening Event Message Record)) : Type 0 where

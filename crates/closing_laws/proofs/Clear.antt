@@ -3,11 +3,9 @@ use Rattle.std.proofs.Common.{◌≡◌, Bool, true, false, cond, not, is_some, 
 use Rattle.mdb_base.specs.declared.names.SiteId.{SiteId}
 use Rattle.mdb_base.specs.declared.names.Tid.{Tid}
 use Rattle.mdb_base.specs.Words.{Each, those}
-use Rattle.mdb_base.proofs.NameLaws.{same_tid-refl, same_site-refl}
-use Rattle.mdb_base.proofs.Words.{when-false}
-use Rattle.mdb_base.proofs.OptionLaws.{given_some}
+use Rattle.mdb_base.proofs.ForCallers.{given_some, same_site-refl, same_tid-refl, when-false}
 use Rattle.order_laws.specs.Chains.{In}
-use Rattle.order_laws.proofs.Lists.{in_those, those_in, each_from}
+use Rattle.order_laws.proofs.ForCallers.{each_from, in_those, those_in}
 use Rattle.fed_rules.specs.declared.answers.Answer.TheVariants as Say
 use Rattle.fed_rules.specs.declared.commands.Command.{Command}
 use Rattle.fed_rules.specs.declared.commands.Command.TheVariants as Cmd
@@ -23,19 +21,17 @@ use Rattle.fed_rules.specs.Site.{with_lines, of_abort, of_drop}
 use Rattle.fed_rules.specs.SitePast.{SiteHappening, SitePast, epoch_start, engine_lines, live, live_of_tx, is_local}
 use Rattle.fed_rules.specs.SiteRecords.{Home}
 use Rattle.fed_rules.specs.Story.{Story, AtSite, past_of, with_site, happens, story_of, on_local, requested}
-use Rattle.commit_laws.proofs.Links.{its-site, home-again}
-use Rattle.engine_laws.proofs.Runs.{tid_is, attempts_have}
+use Rattle.commit_laws.proofs.ForCallers.{home-again, its-site}
+use Rattle.engine_laws.proofs.ForCallers.{abort_ends, attempts_have, tid_is}
 use Rattle.site_history.specs.Stories.{StoriesHaveRightLines}
 use Rattle.closing_laws.proofs.OpenRuns.{in_open}
-use Rattle.rules_laws.proofs.RisingLists.{rising_in}
-use Rattle.site_history.proofs.Agreement.{live_is}
-use Rattle.federation_laws.proofs.Told.{local_home-declared}
+use Rattle.rules_laws.proofs.ForCallers.{rising_in}
+use Rattle.site_history.proofs.ForCallers.{live_is}
+use Rattle.federation_laws.proofs.ForCallers.{declared-in, local_home-declared}
 use Rattle.closing_laws.proofs.Calm.{aborts_here, drops, ended_run}
-use Rattle.federation_laws.proofs.Declared.{declared-in}
 use Rattle.closing_laws.proofs.Locals.{local_at_home, live_is_found}
 use Rattle.closing_laws.proofs.Onward.{IsCalm, Onward, onward_here, onward_on, onward_next, at_home, gentle_abort, gentle_drop}
 use Rattle.fed_rules.specs.SiteCommands.{request, with_live}
-use Rattle.engine_laws.proofs.RunLines.{abort_ends}
 
 -- what an abort and a drop make happen
 abort_told : (scenario : Scenario) (story : Story) (home : Home) (tid : Tid) (run : Run) → IsCalm story → local_home scenario tid.tx ≡ Some home

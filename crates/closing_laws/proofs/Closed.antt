@@ -2,8 +2,7 @@
 use Rattle.fed_rules.specs.Closing.{disarm, bring_up, give_up, clear, end_known, ask_all}
 use Rattle.fed_rules.specs.Sessions.{fresh}
 use Rattle.fed_rules.specs.Story.{Story, story_of}
-use Rattle.commit_laws.proofs.FoundSessions.{fresh_fits}
-use Rattle.commit_laws.proofs.Walks.{undeclared}
+use Rattle.commit_laws.proofs.ForCallers.{fresh_fits, undeclared}
 use Rattle.site_history.specs.Stories.{StoriesHaveRightLines}
 use Rattle.closing_laws.specs.AtRest.{AllUp, ClosedSessionsRest, ClosingStaysUp}
 use Rattle.closing_laws.proofs.Clear.{cleared}

@@ -4,11 +4,9 @@ use Rattle.mdb_base.specs.declared.names.SiteId.{SiteId}
 use Rattle.mdb_base.specs.declared.names.Tid.{Tid}
 use Rattle.mdb_base.specs.Names.{same_tid}
 use Rattle.mdb_base.specs.Words.{when, given, item_at, some_of}
-use Rattle.mdb_base.proofs.NameLaws.{same_tid-refl}
-use Rattle.mdb_base.proofs.Words.{when-true}
-use Rattle.mdb_base.proofs.ListLaws.{among_some}
+use Rattle.mdb_base.proofs.ForCallers.{among_some, same_tid-refl, when-true}
 use Rattle.presumptions.specs.declared.Decision.TheVariants as Decided_as
-use Rattle.order_laws.proofs.Lists.{is_among}
+use Rattle.order_laws.proofs.ForCallers.{is_among}
 use Rattle.fed_rules.specs.declared.answers.Answer.TheVariants as Say
 use Rattle.fed_rules.specs.declared.answers.Cause.TheVariants as For
 use Rattle.fed_rules.specs.declared.commands.Command.{Command}
@@ -23,19 +21,14 @@ use Rattle.fed_rules.specs.CoordPast.{CoordHappening, CoordPast, Standing, Undec
 use Rattle.fed_rules.specs.Scenarios.{protocols, policy}
 use Rattle.fed_rules.specs.Sessions.{Session}
 use Rattle.fed_rules.specs.Story.{Story, AtCoordinator, Nowhere, coord_past, sent_from, at_coordinator, on_attempt, on_take, happens, story_in, coord_requested}
-use Rattle.commit_laws.proofs.FoundSessions.{CoordinatorFits, session_sound}
-use Rattle.coord_laws.proofs.Begun.{begun_in}
-use Rattle.coord_laws.proofs.Lines.{coord_lines}
-use Rattle.coord_laws.proofs.Sound.{IsBegun}
-use Rattle.commit_laws.proofs.PreparedLaws.{nowhere}
+use Rattle.commit_laws.proofs.ForCallers.{CoordinatorFits, member_of, nowhere, session_sound}
+use Rattle.coord_laws.proofs.ForCallers.{IsBegun, begun_in, coord_lines, is_undecided}
 use Rattle.closing_laws.proofs.Calm.{lates, agains, takes, IsPlain, plain_mild, undecided_open}
 use Rattle.closing_laws.proofs.Onward.{IsCalm, IsGentle, gentle_nowhere, onward_next}
-use Rattle.coord_laws.proofs.Facts.{is_undecided}
 use Rattle.fed_rules.specs.declared.messages.Due.{Due}
 use Rattle.fed_rules.specs.CoordCommands.{attempt_request}
 use Rattle.fed_rules.specs.Requests.{Submits, Declines}
-use Rattle.rules_laws.proofs.CoordPasts.{IsNoGo}
-use Rattle.commit_laws.proofs.Links.{member_of}
+use Rattle.rules_laws.proofs.ForCallers.{IsNoGo}
 
 -- branches of a rule
 plain_when : (t : Bool) (a b : CoordHappening) → IsPlain a.answer → IsPlain b.answer → IsPlain (when t a b).answer

@@ -1,6 +1,6 @@
 -- What a line of the coordinator that takes a reply or a vote leaves of an undecided attempt, and what it sends.
-use Rattle.mdb_base.proofs.BoolLaws.{cond_same}
-use Rattle.coord_laws.proofs.Rules.{calm_standing}
+use Rattle.mdb_base.proofs.ForCallers.{cond_same, each_inserted, same_site-equal, same_site-refl, same_tid-refl}
+use Rattle.coord_laws.proofs.ForCallers.{calm_standing}
 use Rattle.std.proofs.Common.{◌≡◌, ℕ, ◌⊎◌, Bool, true, false, cond, not, ◌&&◌, ◌||◌, is_none, Option, Some, None, List, [], ◌∷◌, map, drop, inl, inr, refl, sym, ap, ap₂, subst, ◌∙◌, nat_lt}
 use Rattle.std.proofs.lemmas.Bool.{and_parts}
 use Rattle.mdb_base.specs.declared.names.SiteId.{SiteId}
@@ -8,11 +8,9 @@ use Rattle.mdb_base.specs.declared.names.Tid.{Tid}
 use Rattle.mdb_base.specs.declared.replies.Reply.{Reply}
 use Rattle.mdb_base.specs.Names.{same_site, same_tid}
 use Rattle.mdb_base.specs.Words.{Each, when, those, found, with_some, some_of, inserted, item_at}
-use Rattle.mdb_base.proofs.ListLaws.{each_inserted}
-use Rattle.mdb_base.proofs.NameLaws.{same_tid-refl, same_site-equal, same_site-refl}
 use Rattle.presumptions.specs.declared.Participant.{Participant}
 use Rattle.order_laws.specs.Chains.{In}
-use Rattle.order_laws.proofs.Lists.{each_at, each_from, those_in}
+use Rattle.order_laws.proofs.ForCallers.{each_at, each_from, those_in}
 use Rattle.fed_rules.specs.declared.answers.Answer.TheVariants as Say
 use Rattle.fed_rules.specs.declared.events.CoordEvent.{CoordEvent}
 use Rattle.fed_rules.specs.declared.events.CoordEvent.TheVariants as Ev
@@ -33,7 +31,7 @@ use Rattle.fed_rules.specs.Plans.{IsScenario, all_differ, one_site}
 use Rattle.fed_rules.specs.Scenarios.{protocols_in, protocols}
 use Rattle.fed_rules.specs.Site_of.{due_site}
 use Rattle.closing_laws.proofs.Dues.{work_of, prepare_of, due_of, due_is}
-use Rattle.federation_laws.proofs.Dues.{steps_of, count_of, epoch_of, ticket_of}
+use Rattle.federation_laws.proofs.ForCallers.{count_of, epoch_of, steps_of, ticket_of}
 
 -- what is left: the program, these replies and votes; it is still undecided, and no other attempt is known
 pub record Views (g : Tid) (past : CoordPast) (x : CoordHappening) (replies : List Counted) (votes : SiteId → Option ℕ) : Type 0 where

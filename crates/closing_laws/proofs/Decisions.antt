@@ -5,8 +5,7 @@ use Rattle.mdb_base.specs.declared.names.SiteId.{SiteId}
 use Rattle.mdb_base.specs.declared.names.Tid.{Tid}
 use Rattle.mdb_base.specs.Names.{same_tid, same_tx}
 use Rattle.mdb_base.specs.Words.{Each, Among, when, given, item_at}
-use Rattle.mdb_base.proofs.NameLaws.{same_tid-equal, same_tx-refl}
-use Rattle.mdb_base.proofs.Words.{cond-false}
+use Rattle.mdb_base.proofs.ForCallers.{cond-false, same_tid-equal, same_tx-refl}
 use Rattle.presumptions.specs.declared.Decision.TheVariants as Decided_as
 use Rattle.presumptions.specs.declared.Participant.{Participant}
 use Rattle.presumptions.specs.Table.{acks}
@@ -36,12 +35,8 @@ use Rattle.fed_rules.specs.SitePast.{SiteHappening, records, live}
 use Rattle.fed_rules.specs.SiteRecords.{Home, doubt_of}
 use Rattle.fed_rules.specs.Story.{Story, Happened, AtSite, AtCoordinator, Nowhere, past_of, coord_past, with_site, with_coordinator, sent_to, sent_from, at_coordinator, on_take, happens, place_from, places_of, story_of}
 use Rattle.coord_laws.specs.Records.{IsCommit}
-use Rattle.commit_laws.proofs.Agreed.{coord-sound}
-use Rattle.commit_laws.proofs.FoundSessions.{fresh_fits}
-use Rattle.coord_laws.proofs.Lines.{coord_lines}
-use Rattle.coord_laws.proofs.Sound.{kept_stays, end_commit}
-use Rattle.commit_laws.proofs.Links.{Linked, linked}
-use Rattle.commit_laws.proofs.PreparedLaws.{nowhere}
+use Rattle.commit_laws.proofs.ForCallers.{Linked, coord-sound, fresh_fits, linked, nowhere}
+use Rattle.coord_laws.proofs.ForCallers.{coord_lines, end_commit, kept_stays}
 use Rattle.closing_laws.proofs.Calm.{takes}
 use Rattle.closing_laws.proofs.CoordTurns.{takes_there}
 use Rattle.closing_laws.proofs.Declared.{IsMemberHome}

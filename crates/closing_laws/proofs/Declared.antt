@@ -4,10 +4,10 @@ use Rattle.std.proofs.lemmas.Bool.{and_parts}
 use Rattle.mdb_base.specs.declared.names.SiteId.{SiteId}
 use Rattle.mdb_base.specs.Names.{same_site}
 use Rattle.mdb_base.specs.Words.{Among, given, some_of, each_of, inserted}
-use Rattle.mdb_base.proofs.NameLaws.{same_site-equal, same_site-refl}
+use Rattle.mdb_base.proofs.ForCallers.{same_site-equal, same_site-refl}
 use Rattle.presumptions.specs.declared.Participant.{Participant}
 use Rattle.order_laws.specs.Chains.{In}
-use Rattle.order_laws.proofs.Lists.{among_weaker, map_among}
+use Rattle.order_laws.proofs.ForCallers.{among_weaker, map_among}
 use Rattle.fed_rules.specs.declared.answers.Answer.TheVariants as Say
 use Rattle.fed_rules.specs.declared.events.CoordEvent.{CoordEvent}
 use Rattle.fed_rules.specs.declared.events.SiteEvent.{SiteEvent}
@@ -18,7 +18,7 @@ use Rattle.fed_rules.specs.Plans.{AreSites, is_between, all_differ, one_site}
 use Rattle.fed_rules.specs.Scenarios.{home_in, home_of, items_of, protocols_in, protocols, sites}
 use Rattle.fed_rules.specs.SiteRecords.{Home}
 use Rattle.fed_rules.specs.Story.{Story, Nowhere, at_site, on_site, on_actor}
-use Rattle.federation_laws.proofs.Declared.{number_some}
+use Rattle.federation_laws.proofs.ForCallers.{number_some}
 
 -- an event of the actor with a declared site's number is that site's
 pub actor_hears : (scenario : Scenario) (home : Home) (story : Story) (c : CoordEvent) (s : SiteEvent) → AreSites scenario.sites → home_of scenario home.site ≡ Some home

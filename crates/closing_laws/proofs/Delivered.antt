@@ -1,14 +1,12 @@
 -- A decision that is sent to a site is given there, and its acknowledgement is taken.
 use Rattle.std.proofs.lemmas.Bool.{not-true}
-use Rattle.order_laws.proofs.Lists.{in_those, those_in, is_among}
+use Rattle.order_laws.proofs.ForCallers.{in_those, is_among, those_in}
 use Rattle.std.proofs.Common.{◌≡◌, ℕ, ◌⊎◌, Bool, true, false, cond, not, ◌&&◌, ◌||◌, Option, Some, None, List, [], ◌∷◌, ◌++◌, length, inl, inr, refl, sym, ap, subst, ◌∙◌}
 use Rattle.mdb_base.specs.declared.names.SiteId.{SiteId}
 use Rattle.mdb_base.specs.declared.names.Tid.{Tid}
 use Rattle.mdb_base.specs.Names.{same_site, same_tid}
 use Rattle.mdb_base.specs.Words.{when, given, item_at}
-use Rattle.mdb_base.proofs.NameLaws.{same_tid-refl, same_site-refl}
-use Rattle.mdb_base.proofs.Words.{cond-true}
-use Rattle.mdb_base.proofs.ListLaws.{among_some}
+use Rattle.mdb_base.proofs.ForCallers.{among_some, cond-true, same_site-refl, same_tid-refl}
 use Rattle.presumptions.specs.declared.Decision.{Decision}
 use Rattle.presumptions.specs.declared.Participant.{Participant}
 use Rattle.presumptions.specs.Table.{acks}
@@ -41,8 +39,8 @@ use Rattle.closing_laws.proofs.Calm.{gives, takes}
 use Rattle.closing_laws.proofs.CoordTurns.{takes_there, gentle_ack}
 use Rattle.closing_laws.proofs.Onward.{IsCalm, Onward, onward_on, onward_next, at_home, gentle_give}
 use Rattle.fed_rules.specs.Disk.{Append}
-use Rattle.coord_laws.proofs.Rules.{calm_standing}
-use Rattle.commit_laws.proofs.FoundSessions.{CoordinatorFits}
+use Rattle.coord_laws.proofs.ForCallers.{calm_standing}
+use Rattle.commit_laws.proofs.ForCallers.{CoordinatorFits}
 
 -- what comes behind a list stands at its length
 pub item_behind : {A : Type 0} (xs ys : List A) (y : A) → item_at (xs ++ y ∷ ys) (length xs) ≡ Some y

@@ -1,6 +1,6 @@
 -- What is outstanding of an attempt, by its program, the replies that counted and the votes; and what one more reply changes.
-use Rattle.mdb_base.proofs.OptionLaws.{some_parts}
-use Rattle.federation_laws.proofs.Dues.{of_site, steps_of, count_of, epoch_of, ticket_of}
+use Rattle.mdb_base.proofs.ForCallers.{cond-false, cond-true, same_site-equal, same_site-refl, some_parts}
+use Rattle.federation_laws.proofs.ForCallers.{count_of, epoch_of, of_site, steps_of, ticket_of}
 use Rattle.std.proofs.Common.{◌≡◌, ℕ, zero, suc, Bool, true, false, cond, not, ◌&&◌, ◌||◌, is_none, Option, Some, None, List, [], ◌∷◌, drop, refl, sym, ap, ap₂, ◌∙◌}
 use Rattle.mdb_base.specs.declared.acts.Step.{Step}
 use Rattle.mdb_base.specs.declared.acts.PlainAct.{PlainAct}
@@ -10,8 +10,6 @@ use Rattle.mdb_base.specs.declared.replies.Reply.TheVariants as Reply_is
 use Rattle.mdb_base.specs.Names.{same_site}
 use Rattle.mdb_base.specs.Programs.{plain_act}
 use Rattle.mdb_base.specs.Words.{found, how_many, some_of, item_at}
-use Rattle.mdb_base.proofs.Words.{cond-true, cond-false}
-use Rattle.mdb_base.proofs.NameLaws.{same_site-equal, same_site-refl}
 use Rattle.fed_rules.specs.declared.messages.Due.{Due}
 use Rattle.fed_rules.specs.declared.messages.Due.TheVariants as Due_is
 use Rattle.fed_rules.specs.CoordPast.{CoordPast, Counted, counted, is_wait, is_ticket, last_epoch, value_in, oldest_first, program, vote_at, visits, outstanding, work_at, next_step}

@@ -3,13 +3,12 @@ use Rattle.std.proofs.Common.{◌≡◌, Bool, true, false, cond, not, ◌&&◌,
 use Rattle.mdb_base.specs.declared.names.Tid.{Tid}
 use Rattle.mdb_base.specs.Names.{same_site, same_tid}
 use Rattle.mdb_base.specs.Words.{Each, when, item_at, those, some_of}
-use Rattle.mdb_base.proofs.Words.{when-true, when-false}
-use Rattle.mdb_base.proofs.NameLaws.{same_site-refl}
+use Rattle.mdb_base.proofs.ForCallers.{same_site-refl, when-false, when-true}
 use Rattle.presumptions.specs.declared.Decision.{Decision}
 use Rattle.presumptions.specs.declared.Participant.{Participant}
 use Rattle.presumptions.specs.Table.{acks}
 use Rattle.order_laws.specs.Chains.{In}
-use Rattle.order_laws.proofs.Lists.{in_those, those_in}
+use Rattle.order_laws.proofs.ForCallers.{in_those, those_in}
 use Rattle.fed_rules.specs.declared.answers.Answer.TheVariants as Say
 use Rattle.fed_rules.specs.declared.commands.Command.{Command}
 use Rattle.fed_rules.specs.declared.commands.Command.TheVariants as Cmd
@@ -28,20 +27,16 @@ use Rattle.fed_rules.specs.Plans.{AreSites}
 use Rattle.fed_rules.specs.Scenarios.{protocols, policy}
 use Rattle.fed_rules.specs.Sessions.{Session}
 use Rattle.fed_rules.specs.Story.{Story, AtCoordinator, coord_past, with_coordinator, sent_to, sends_to, on_attempt, happens, places_of, story_in, coord_requested}
-use Rattle.commit_laws.proofs.FoundSessions.{CoordinatorFits, session_sound}
-use Rattle.commit_laws.proofs.PreparedLaws.{nowhere}
-use Rattle.rules_laws.proofs.RisingLists.{rising_in}
+use Rattle.commit_laws.proofs.ForCallers.{CoordinatorFits, member_of, nowhere, session_sound}
+use Rattle.rules_laws.proofs.ForCallers.{rising_in}
 use Rattle.closing_laws.proofs.Calm.{agains}
 use Rattle.closing_laws.proofs.CoordTurns.{gentle_again, hears_of}
-use Rattle.coord_laws.proofs.Begun.{begun_in}
+use Rattle.coord_laws.proofs.ForCallers.{begun_in, calm_standing, is_undecided}
 use Rattle.closing_laws.proofs.Declared.{IsMemberHome, member_home}
 use Rattle.closing_laws.proofs.Delivered.{item_behind, IsWaiting, IsDelivered, delivered}
 use Rattle.closing_laws.proofs.Onward.{IsCalm, Onward, onward_here, onward_on, onward_next}
-use Rattle.coord_laws.proofs.Facts.{is_undecided}
-use Rattle.coord_laws.proofs.Rules.{calm_standing}
 use Rattle.fed_rules.specs.CoordCommands.{attempt_request}
 use Rattle.fed_rules.specs.Requests.{Submits, Declines}
-use Rattle.commit_laws.proofs.Links.{member_of}
 
 -- a participant at a declared site that acknowledges the decision
 pub record CanAck (scenario : Scenario) (decision : Decision) (member : Participant) : Type 0 where

@@ -7,10 +7,9 @@ use Rattle.mdb_base.specs.declared.names.Tid.{Tid}
 use Rattle.mdb_base.specs.declared.names.Tx.{Tx}
 use Rattle.mdb_base.specs.Names.{same_tx}
 use Rattle.mdb_base.specs.Words.{Among, each_of, found, given, how_many, map_some, those, when, with_some}
-use Rattle.mdb_base.proofs.NameLaws.{same_tx-equal}
-use Rattle.mdb_base.proofs.JoinLaws.{length-map}
+use Rattle.mdb_base.proofs.ForCallers.{length-map, same_tx-equal}
 use Rattle.order_laws.specs.Chains.{In}
-use Rattle.order_laws.proofs.Lists.{among_is, among_map, among_weaker, each_of_at, first_where_some, is_among}
+use Rattle.order_laws.proofs.ForCallers.{among_is, among_map, among_weaker, each_of_at, first_where_some, is_among}
 use Rattle.fed_rules.specs.declared.commands.Command.{Command}
 use Rattle.fed_rules.specs.declared.commands.Command.TheVariants as Cmd
 use Rattle.fed_rules.specs.declared.events.CoordEvent.TheVariants as Coord_event
@@ -33,17 +32,9 @@ use Rattle.fed_rules.specs.SitePast.{SiteHappening, SitePast, begins_tx, engine_
 use Rattle.fed_rules.specs.SiteRecords.{Home, Held, doubt_of, doubts, prepared_tids}
 use Rattle.fed_rules.specs.Story.{Story, Happened, AtSite, AtCoordinator, Nowhere, coord_past, coord_requested, happens, on_go, past_of, story_of, with_coordinator}
 use Rattle.rules_laws.specs.Lines.{CoordCause, IsLine}
-use Rattle.rules_laws.proofs.EachAttempt.{each_distinct}
-use Rattle.rules_laws.proofs.Lines.{line_is}
-use Rattle.coord_laws.proofs.Begun.{begins_some}
-use Rattle.coord_laws.proofs.Lines.{coord_lines}
-use Rattle.coord_laws.proofs.Past.{begin_in_order, begin_once}
-use Rattle.coord_laws.proofs.Sound.{begins_go}
-use Rattle.commit_laws.proofs.Agreed.{agreed, coord-sound}
-use Rattle.commit_laws.proofs.ForgettingProofs.{next-turn}
-use Rattle.commit_laws.proofs.Links.{home-again, story_goes_on}
-use Rattle.commit_laws.proofs.PreparedLaws.{nowhere}
-use Rattle.commit_laws.proofs.SiteWork.{held-prepared}
+use Rattle.rules_laws.proofs.ForCallers.{each_distinct, line_is}
+use Rattle.coord_laws.proofs.ForCallers.{begin_in_order, begin_once, begins_go, begins_some, coord_lines}
+use Rattle.commit_laws.proofs.ForCallers.{agreed, coord-sound, held-prepared, home-again, next-turn, nowhere, story_goes_on}
 use Rattle.site_history.specs.Led.{IsAsked, IsLed}
 use Rattle.found_laws.specs.Ranges.{IsInRange}
 use Rattle.closing_laws.proofs.BegunOnce.{IsOthers, led_story, locals_numbered, sites_begin_once}

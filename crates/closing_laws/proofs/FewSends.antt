@@ -4,8 +4,7 @@ use Rattle.std.proofs.Common.{◌≡◌, ℕ, ◌≤◌, Bool, true, false, not,
 use Rattle.mdb_base.specs.declared.names.SiteId.{SiteId}
 use Rattle.mdb_base.specs.declared.names.Tid.{Tid}
 use Rattle.mdb_base.specs.Words.{some_of, when}
-use Rattle.mdb_base.proofs.JoinLaws.{length-map}
-use Rattle.mdb_base.proofs.TestLaws.{length_those}
+use Rattle.mdb_base.proofs.ForCallers.{length-map, length_those}
 use Rattle.presumptions.specs.Table.{acks}
 use Rattle.presumptions.specs.declared.Decision.{Decision}
 use Rattle.presumptions.specs.declared.Participant.{Participant}

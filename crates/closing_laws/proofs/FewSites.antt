@@ -3,14 +3,14 @@ use Rattle.std.proofs.Common.{◌≡◌, ℕ, suc, ◌<◌, ◌≤◌, List, [],
 use Rattle.std.proofs.lemmas.Bool.{and_parts, leb-true}
 use Rattle.std.specs.Prelude.{nat_le}
 use Rattle.mdb_base.specs.Words.{Among}
-use Rattle.mdb_base.proofs.JoinLaws.{length-map}
+use Rattle.mdb_base.proofs.ForCallers.{length-map}
 use Rattle.order_laws.specs.Chains.{Distinct, In}
-use Rattle.order_laws.proofs.Lists.{among_is, among_map, each_of_at}
+use Rattle.order_laws.proofs.ForCallers.{among_is, among_map, each_of_at}
 use Rattle.fed_rules.specs.declared.scenario.Scenario.{Scenario}
 use Rattle.fed_rules.specs.declared.scenario.SiteLine.{SiteLine}
 use Rattle.fed_rules.specs.Plans.{AreSites, is_between, one_site}
 use Rattle.fed_rules.specs.Scenarios.{protocols, protocols_in}
-use Rattle.commit_laws.proofs.Declared.{by_site}
+use Rattle.commit_laws.proofs.ForCallers.{by_site}
 use Rattle.closing_laws.proofs.Lengths.{few_numbers, length_inserted, numbers_differ}
 
 protocols_many : (lines : List SiteLine) → length (protocols_in lines) ≡ length lines

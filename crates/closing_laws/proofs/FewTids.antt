@@ -4,8 +4,7 @@ use Rattle.std.proofs.lemmas.Bool.{cases_lt}
 use Rattle.mdb_base.specs.declared.names.Tid.{Tid}
 use Rattle.mdb_base.specs.declared.names.Tx.{Tx}
 use Rattle.mdb_base.specs.Words.{found}
-use Rattle.mdb_base.proofs.EachLaws.{among_append, among_behind}
-use Rattle.mdb_base.proofs.JoinLaws.{length-append}
+use Rattle.mdb_base.proofs.ForCallers.{among_append, among_behind, length-append}
 use Rattle.order_laws.specs.Chains.{Distinct, In}
 use Rattle.fed_rules.specs.Requests.{attempt}
 use Rattle.found_laws.specs.Ranges.{IsInRange}

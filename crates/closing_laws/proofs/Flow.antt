@@ -6,12 +6,12 @@ use Rattle.mdb_base.specs.declared.names.Tid.{Tid}
 use Rattle.mdb_base.specs.declared.replies.Reply.{Reply}
 use Rattle.mdb_base.specs.Names.{same_site, same_tid}
 use Rattle.mdb_base.specs.Words.{Each, Among, those, some_of, how_many, item_at}
-use Rattle.mdb_base.proofs.Words.{cond-true}
+use Rattle.mdb_base.proofs.ForCallers.{among_append, among_behind, append_each, cond-true, item_at-front, same_site-equal, same_site-refl, same_tid-equal, same_tid-refl}
 use Rattle.presumptions.specs.declared.Participant.{Participant}
 use Rattle.order_laws.specs.Chains.{In}
 use Rattle.order_laws.specs.Tickets.{Ticketed}
 use Rattle.mdb_base.specs.declared.names.SiteTicket.{SiteTicket}
-use Rattle.order_laws.proofs.Lists.{each_at, each_from, in_those, among_is, among_weaker}
+use Rattle.order_laws.proofs.ForCallers.{among_is, among_weaker, each_at, each_from, in_those}
 use Rattle.fed_rules.specs.declared.answers.Answer.TheVariants as Say
 use Rattle.fed_rules.specs.declared.commands.Command.{Command}
 use Rattle.fed_rules.specs.declared.commands.Place.{Place}
@@ -35,18 +35,14 @@ use Rattle.closing_laws.proofs.AloneSites.{Stage}
 use Rattle.closing_laws.proofs.CoordView.{Views, did_event, reply_of, only_views, SendsDues, due_now, Apart, apart_those, protocols_apart, found_where, found_apart, IsNew, new_from, new_to, first_due}
 use Rattle.closing_laws.proofs.Delivered.{item_behind}
 use Rattle.closing_laws.proofs.Dues.{due_of, due_is, IsDue, AtWork, AtTake, AtPrepare, due_kind, due_there, other_at, other_ticketed}
-use Rattle.federation_laws.proofs.Dues.{of_site, steps_of, count_of, epoch_of, ticket_of}
+use Rattle.federation_laws.proofs.ForCallers.{count_of, epoch_of, of_site, steps_of, ticket_of}
 use Rattle.closing_laws.proofs.Exchange.{IsExchange, with_give, both, past_given, other_given, coord_both, past_both, sent_given, sent_both, calm_both, goes_on}
 use Rattle.closing_laws.proofs.Onward.{IsCalm, one_home}
 use Rattle.fed_rules.specs.Policies.{Policy, policy_of}
-use Rattle.mdb_base.proofs.NameLaws.{same_tid-refl, same_tid-equal, same_site-equal, same_site-refl}
-use Rattle.mdb_base.proofs.EachLaws.{among_behind, among_append}
-use Rattle.mdb_base.proofs.PlaceLaws.{item_at-front}
-use Rattle.mdb_base.proofs.ListLaws.{append_each}
 use Rattle.presumptions.specs.declared.Decision.{Decision}
 use Rattle.closing_laws.proofs.Quiet.{nothing_passes}
 use Rattle.fed_rules.specs.declared.events.CoordEvent.{CoordEvent}
-use Rattle.site_history.proofs.LiveOnes.{found_in}
+use Rattle.site_history.proofs.ForCallers.{found_in}
 
 -- a message that is outstanding, with its place
 pub record Entry : Type 0 where

@@ -11,12 +11,10 @@ use Rattle.mdb_base.specs.declared.replies.Reply.TheVariants as Reply_is
 use Rattle.mdb_base.specs.Names.{same_site}
 use Rattle.mdb_base.specs.Programs.{IsProgram}
 use Rattle.mdb_base.specs.Words.{Among, some_of, how_many, item_at}
-use Rattle.mdb_base.proofs.Words.{when-true, cond-true, cond-false}
-use Rattle.mdb_base.proofs.NameLaws.{same_site-equal, same_site-refl}
-use Rattle.mdb_base.proofs.PlaceLaws.{item_at-below}
+use Rattle.mdb_base.proofs.ForCallers.{cond-false, cond-true, item_at-below, same_site-equal, same_site-refl, when-true}
 use Rattle.presumptions.specs.declared.Participant.{Participant}
 use Rattle.order_laws.specs.Chains.{In}
-use Rattle.order_laws.proofs.Lists.{those_in}
+use Rattle.order_laws.proofs.ForCallers.{those_in}
 use Rattle.fed_rules.specs.declared.answers.Answer.TheVariants as Say
 use Rattle.fed_rules.specs.declared.commands.Command.{Command}
 use Rattle.fed_rules.specs.declared.events.CoordEvent.TheVariants as Ev
@@ -43,7 +41,7 @@ use Rattle.closing_laws.proofs.AloneSites.{Stage, NotYet, Running, Sealed, Sends
 use Rattle.closing_laws.proofs.CoordView.{did_event, reply_of, SendsDues, dues_sent}
 use Rattle.closing_laws.proofs.Declared.{member_home}
 use Rattle.closing_laws.proofs.Dues.{act_of, due_of, due_is, step_keeps, ticket_keeps, no_more}
-use Rattle.federation_laws.proofs.Dues.{of_site, steps_of, count_of, epoch_of, ticket_of}
+use Rattle.federation_laws.proofs.ForCallers.{count_of, epoch_of, of_site, steps_of, ticket_of}
 use Rattle.closing_laws.proofs.Exchange.{IsExchange}
 use Rattle.closing_laws.proofs.Flow.{Entry, site_of, place_of, members_of, Flow, Answered, member_there, answered, sent_entries, advance, advanced, counted_now, vote_now, alone_takes, news_alone}
 use Rattle.fed_rules.specs.Policies.{Policy}

@@ -8,15 +8,12 @@ use Rattle.mdb_base.specs.declared.names.Tid.{Tid}
 use Rattle.mdb_base.specs.declared.replies.Edge.{Edge}
 use Rattle.mdb_base.specs.Names.{same_site, same_tid}
 use Rattle.mdb_base.specs.Words.{Among, given, item_at}
-use Rattle.mdb_base.proofs.Words.{when-true, when-false, cond-false}
-use Rattle.mdb_base.proofs.NameLaws.{same_site-equal, same_site-refl}
-use Rattle.mdb_base.proofs.PlaceLaws.{item_at-front}
+use Rattle.mdb_base.proofs.ForCallers.{cond-false, item_at-front, same_site-equal, same_site-refl, when-false, when-true}
 use Rattle.presumptions.specs.declared.Participant.{Participant}
 use Rattle.order_laws.specs.Chains.{In}
 use Rattle.order_laws.specs.Search.{cycle_through}
 use Rattle.order_laws.specs.Tickets.{Ticketed, IsCycle, IsEdge, Precedes, edge_between}
-use Rattle.order_laws.proofs.Lists.{each_at, each_from, each_of_false, each_of_at, among_weaker}
-use Rattle.order_laws.proofs.Tickets.{cycle_found}
+use Rattle.order_laws.proofs.ForCallers.{among_weaker, cycle_found, each_at, each_from, each_of_at, each_of_false}
 use Rattle.fed_rules.specs.declared.answers.Answer.TheVariants as Say
 use Rattle.fed_rules.specs.declared.answers.Cause.TheVariants as For
 use Rattle.fed_rules.specs.declared.commands.Command.{Command}
@@ -41,22 +38,19 @@ use Rattle.fed_rules.specs.Site.{of_give, votes_yes, done}
 use Rattle.fed_rules.specs.SitePast.{SiteHappening, SitePast, records, epoch, epoch_start, engine_lines, live}
 use Rattle.fed_rules.specs.SiteRecords.{Home, doubt_of}
 use Rattle.fed_rules.specs.Story.{Story, AtCoordinator, past_of, coord_past, sent_to, places_of, story_of}
-use Rattle.commit_laws.proofs.Agreed.{coord-sound}
-use Rattle.coord_laws.proofs.Sound.{commit_mark}
-use Rattle.commit_laws.proofs.PreparedLaws.{nowhere}
+use Rattle.commit_laws.proofs.ForCallers.{coord-sound, nowhere}
+use Rattle.coord_laws.proofs.ForCallers.{commit_mark, open_undecided}
 use Rattle.coord_laws.specs.Records.{IsCommit}
 use Rattle.closing_laws.specs.Given.{CommittedTicketsArePublished}
-use Rattle.engine_laws.proofs.AloneAt.{IsAlone}
+use Rattle.engine_laws.proofs.ForCallers.{IsAlone}
 use Rattle.closing_laws.proofs.AloneSites.{Stage, prepare_stage}
 use Rattle.closing_laws.proofs.CoordView.{Views, voted, vote_views, due_now, found_where}
 use Rattle.closing_laws.proofs.Dues.{due_of, due_by, due_is, IsDue, AtWork, AtTake, AtPrepare, due_kind}
-use Rattle.federation_laws.proofs.Dues.{steps_of, count_of, epoch_of, ticket_of}
+use Rattle.federation_laws.proofs.ForCallers.{count_of, epoch_of, steps_of, ticket-vote, ticket_of}
 use Rattle.closing_laws.proofs.Exchange.{IsExchange, with_give, both, past_given, other_given, coord_both, past_both, sent_both, calm_both, goes_on}
 use Rattle.closing_laws.proofs.Flow.{Entry, site_of, place_of, IsQueued, members_of, Flow, member_there}
 use Rattle.closing_laws.proofs.FlowSteps.{weight, weight_of, Advances, one_more_passes}
 use Rattle.closing_laws.proofs.Onward.{one_home}
-use Rattle.coord_laws.proofs.Rules.{open_undecided}
-use Rattle.federation_laws.proofs.CommitOnce.{ticket-vote}
 
 -- a commit of an attempt is its record
 pub commit_in : (g : Tid) (rs : List CoordRecord) (c : Ticketed) → In c (commits rs) → c.tid ≡ g → Among (IsCommit g) rs

@@ -2,7 +2,7 @@
 use Rattle.std.proofs.Common.{◌≡◌, Bool, true, false, List, [], ◌∷◌, inl, inr, refl, subst}
 use Rattle.mdb_base.specs.declared.names.Tid.{Tid}
 use Rattle.order_laws.specs.Chains.{In}
-use Rattle.order_laws.proofs.Lists.{in_those}
+use Rattle.order_laws.proofs.ForCallers.{in_those}
 use Rattle.fed_rules.specs.declared.commands.Command.{Command}
 use Rattle.fed_rules.specs.declared.commands.Command.TheVariants as Cmd
 use Rattle.fed_rules.specs.declared.scenario.Scenario.{Scenario}
@@ -10,14 +10,11 @@ use Rattle.fed_rules.specs.Closing.{for_each, undecided, give_up}
 use Rattle.fed_rules.specs.CoordPast.{standing, begun_tids, is_open, known_decision}
 use Rattle.fed_rules.specs.Sessions.{Session}
 use Rattle.fed_rules.specs.Story.{Story, coord_past, happens, story_in}
-use Rattle.commit_laws.proofs.FoundSessions.{CoordinatorFits, session_sound}
-use Rattle.commit_laws.proofs.Links.{member_of}
-use Rattle.commit_laws.proofs.PreparedLaws.{nowhere}
-use Rattle.rules_laws.proofs.RisingLists.{rising_in}
+use Rattle.commit_laws.proofs.ForCallers.{CoordinatorFits, member_of, nowhere, session_sound}
+use Rattle.rules_laws.proofs.ForCallers.{rising_in}
 use Rattle.closing_laws.proofs.CoordTurns.{gentle_late, late_decides}
-use Rattle.coord_laws.proofs.Begun.{begun_in}
+use Rattle.coord_laws.proofs.ForCallers.{begun_in, is_undecided}
 use Rattle.closing_laws.proofs.Onward.{IsCalm, Onward, onward_here, onward_on, onward_next}
-use Rattle.coord_laws.proofs.Facts.{is_undecided}
 use Rattle.fed_rules.specs.Scenarios.{protocols}
 use Rattle.closing_laws.proofs.Calm.{undecided_open}
 

@@ -7,13 +7,10 @@ use Rattle.mdb_base.specs.declared.names.Tid.{Tid}
 use Rattle.mdb_base.specs.Names.{same_site, same_tx}
 use Rattle.mdb_base.specs.Programs.{IsProgram}
 use Rattle.mdb_base.specs.Words.{Each, Among, those, first_where, item_at}
-use Rattle.mdb_base.proofs.ListLaws.{each_map}
-use Rattle.mdb_base.proofs.NameLaws.{same_tid-refl, same_site-equal, same_site-refl}
-use Rattle.mdb_base.proofs.Words.{when-false, cond-true, cond-false}
-use Rattle.mdb_base.proofs.OptionLaws.{given_some, given_none}
+use Rattle.mdb_base.proofs.ForCallers.{and_fails, cond-false, cond-true, each_map, given_none, given_some, same_site-equal, same_site-refl, same_tid-refl, when-false}
 use Rattle.presumptions.specs.declared.Participant.{Participant}
 use Rattle.order_laws.specs.Chains.{In}
-use Rattle.order_laws.proofs.Lists.{each_at, each_from, those_in, is_among}
+use Rattle.order_laws.proofs.ForCallers.{each_at, each_from, is_among, those_in}
 use Rattle.fed_rules.specs.declared.answers.Answer.TheVariants as Say
 use Rattle.fed_rules.specs.declared.commands.Command.{Command}
 use Rattle.fed_rules.specs.declared.commands.Command.TheVariants as Cmd
@@ -37,11 +34,11 @@ use Rattle.fed_rules.specs.SitePast as Site_past
 use Rattle.fed_rules.specs.SiteRecords.{Home, doubt_of}
 use Rattle.fed_rules.specs.Site_of.{due_site}
 use Rattle.fed_rules.specs.Story.{Story, AtCoordinator, past_of, coord_past, with_site, with_coordinator, sent_to, sends_to, most_attempts, attempt, on_go, happens, places_of, story_of, coord_requested}
-use Rattle.engine_laws.proofs.Drawers.{IsDrawer, AllDrew, all_drew}
+use Rattle.engine_laws.proofs.ForCallers.{AllDrew, IsDrawer, all_drew}
 use Rattle.site_history.specs.Lines.{Agrees}
 use Rattle.site_history.specs.SiteOrders.{HasEpochs}
 use Rattle.site_history.specs.Stories.{StoriesHaveRightLines, OfSites}
-use Rattle.federation_laws.proofs.ScenarioFacts.{global_program-is, global-declared, program_fits}
+use Rattle.federation_laws.proofs.ForCallers.{count_of, epoch_of, global-declared, global_program-is, program_fits, steps_of, ticket_of}
 use Rattle.closing_laws.specs.Alone.{IsFinished, GlobalsCommitAlone}
 use Rattle.closing_laws.specs.Given.{UnbegunAreOpen, CommittedTicketsArePublished}
 use Rattle.closing_laws.proofs.AloneSites.{IsIdle, Stage, NotYet}
@@ -49,14 +46,12 @@ use Rattle.closing_laws.proofs.Calm.{IsReady, ready_next}
 use Rattle.closing_laws.proofs.CoordView.{Apart, apart_those, protocols_apart, found_where, found_apart, first_due}
 use Rattle.closing_laws.proofs.Delivered.{item_behind}
 use Rattle.closing_laws.proofs.Dues.{due_is, IsDue, AtWork, AtTake, AtPrepare, due_kind, due_there}
-use Rattle.federation_laws.proofs.Dues.{steps_of, count_of, epoch_of, ticket_of}
 use Rattle.closing_laws.proofs.Flow.{site_of, place_of, IsQueued, members_of, Flow, entry_for, places_for, apart_entries, in_entries, entry_among, member_there, gone_closed}
 use Rattle.closing_laws.proofs.GlobalFlow.{flows}
 use Rattle.closing_laws.proofs.Quiet.{IsQuiet, rests_quiet}
 use Rattle.fed_rules.specs.Policies.{Policy}
 use Rattle.fed_rules.specs.CoordCommands.{go_request, go_next}
-use Rattle.site_history.proofs.LiveOnes.{found_in}
-use Rattle.mdb_base.proofs.BoolLaws.{and_fails}
+use Rattle.site_history.proofs.ForCallers.{found_in}
 
 go_here : (protocols : List Participant) (policy : Policy) (past : CoordPast) (tid : Tid) (steps : List Step) → IsReady Coordinator.trip_of past → coord_line protocols policy past (Ev.Go tid steps) ≡ of_go protocols past tid steps
 unfolding coord_line answered tripped

@@ -6,13 +6,12 @@ use Rattle.mdb_base.specs.declared.names.Tid.{Tid}
 use Rattle.mdb_base.specs.Names.{same_site, same_tid}
 use Rattle.mdb_base.specs.Programs.{IsProgram}
 use Rattle.mdb_base.specs.Words.{Among, those, how_many, item_at}
-use Rattle.mdb_base.proofs.NameLaws.{same_tid-refl}
-use Rattle.mdb_base.proofs.TestLaws.{how_many_at_most}
+use Rattle.mdb_base.proofs.ForCallers.{how_many_at_most, same_tid-refl}
 use Rattle.presumptions.specs.declared.Decision.TheVariants as Decided_as
 use Rattle.presumptions.specs.declared.Participant.{Participant}
 use Rattle.presumptions.specs.Table.{acks}
 use Rattle.order_laws.specs.Chains.{In}
-use Rattle.order_laws.proofs.Lists.{each_from, each_of_at, among_is, is_among, those_in}
+use Rattle.order_laws.proofs.ForCallers.{among_is, each_from, each_of_at, is_among, those_in}
 use Rattle.fed_rules.specs.declared.answers.Answer.TheVariants as Say
 use Rattle.fed_rules.specs.declared.commands.Command.{Command}
 use Rattle.fed_rules.specs.declared.events.CoordEvent.{CoordEvent}
@@ -38,13 +37,11 @@ use Rattle.fed_rules.specs.SitePast as Site_past
 use Rattle.fed_rules.specs.SiteRecords.{Home, doubt_of}
 use Rattle.fed_rules.specs.Story.{Story, AtCoordinator, past_of, coord_past, sent_to, sends_to, places_of, story_of}
 use Rattle.coord_laws.specs.Records.{IsCommit}
-use Rattle.commit_laws.proofs.Agreed.{coord-sound}
-use Rattle.coord_laws.proofs.Facts.{Committed}
-use Rattle.coord_laws.proofs.Lines.{coord_lines}
-use Rattle.commit_laws.proofs.PreparedLaws.{nowhere}
+use Rattle.commit_laws.proofs.ForCallers.{coord-sound, nowhere}
+use Rattle.coord_laws.proofs.ForCallers.{Committed, coord_lines}
 use Rattle.closing_laws.specs.Alone.{IsFinished}
 use Rattle.closing_laws.specs.Given.{CommittedTicketsArePublished}
-use Rattle.engine_laws.proofs.AloneAt.{IsAlone}
+use Rattle.engine_laws.proofs.ForCallers.{IsAlone}
 use Rattle.closing_laws.proofs.AloneSites.{Stage, NotYet, Running, Sealed, prepare_is}
 use Rattle.closing_laws.proofs.Calm.{takes}
 use Rattle.closing_laws.proofs.CoordView.{voted, vote_views}
@@ -52,7 +49,7 @@ use Rattle.closing_laws.proofs.Declared.{IsMemberHome, member_home}
 use Rattle.closing_laws.proofs.Decisions.{commit_of, IsTold, all_told, told_quiet}
 use Rattle.closing_laws.proofs.Delivered.{item_behind, IsWaiting}
 use Rattle.closing_laws.proofs.Dues.{IsDue, AtWork, AtTake, AtPrepare, due_of, due_kind, unvoted_due, due_is}
-use Rattle.federation_laws.proofs.Dues.{steps_of, count_of, epoch_of, ticket_of}
+use Rattle.federation_laws.proofs.ForCallers.{count_of, epoch_of, steps_of, ticket_of}
 use Rattle.closing_laws.proofs.EndKnown.{first_sent, place_at}
 use Rattle.closing_laws.proofs.Exchange.{IsExchange, sent_both, calm_both, sent_given}
 use Rattle.closing_laws.proofs.Flow.{Entry, site_of, place_of, members_of, Flow, member_there}

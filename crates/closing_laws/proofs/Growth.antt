@@ -19,9 +19,7 @@ use Rattle.fed_rules.specs.Site.{answered, did, done, first_work, is_of_epoch, i
 use Rattle.fed_rules.specs.SitePast.{SiteHappening, SitePast, attempts_of, disk, is_closed, is_local, live, live_of_tx, records, run_of, trip}
 use Rattle.fed_rules.specs.SiteRecords.{Home, doubt_of, local_of, site_frame}
 use Rattle.site_history.specs.Events.{IsSorted}
-use Rattle.site_history.proofs.Agreement.{IsKept, free_here}
-use Rattle.site_history.proofs.MessageLines.{not_over}
-use Rattle.site_history.proofs.LineAnswers.{acts_about, refused_about}
+use Rattle.site_history.proofs.ForCallers.{IsKept, acts_about, free_here, not_over, refused_about}
 
 -- the line neither stops the site nor starts it
 pub record IsPlain (x : SiteHappening) : Type 0 where

@@ -4,12 +4,11 @@ use Rattle.mdb_base.specs.declared.names.SiteId.{SiteId}
 use Rattle.mdb_base.specs.declared.names.Tid.{Tid}
 use Rattle.mdb_base.specs.Names.{same_tid}
 use Rattle.mdb_base.specs.Words.{given, item_at, found}
-use Rattle.mdb_base.proofs.NameLaws.{same_tid-refl, same_tid-equal, same_site-refl}
-use Rattle.mdb_base.proofs.Words.{cond-true}
+use Rattle.mdb_base.proofs.ForCallers.{cond-true, same_site-refl, same_tid-equal, same_tid-refl}
 use Rattle.presumptions.specs.declared.Decision.{Decision}
 use Rattle.presumptions.specs.Table.{presumed}
 use Rattle.order_laws.specs.Chains.{In}
-use Rattle.order_laws.proofs.InLaws.{in_map}
+use Rattle.order_laws.proofs.ForCallers.{in_map}
 use Rattle.fed_rules.specs.declared.answers.Answer.TheVariants as Say
 use Rattle.fed_rules.specs.declared.commands.Command.{Command}
 use Rattle.fed_rules.specs.declared.commands.Command.TheVariants as Cmd
@@ -31,19 +30,15 @@ use Rattle.fed_rules.specs.Site.{of_ask, settles, unheld, of_decide}
 use Rattle.fed_rules.specs.SitePast.{SiteHappening, SitePast, records, live}
 use Rattle.fed_rules.specs.SiteRecords.{Home, Held, doubt_of, prepared_tids, doubts}
 use Rattle.fed_rules.specs.Story.{Story, AtSite, AtCoordinator, past_of, coord_past, with_site, sent_to, sends_to, sent_from, happens, places_of, story_in}
-use Rattle.commit_laws.proofs.Links.{its-site, home-again}
-use Rattle.rules_laws.proofs.RisingLists.{rising_in}
+use Rattle.commit_laws.proofs.ForCallers.{CoordinatorFits, home-again, its-site, settles-records}
+use Rattle.rules_laws.proofs.ForCallers.{in_each, in_sorted, rising_in}
 use Rattle.closing_laws.proofs.Calm.{asks, takes}
 use Rattle.closing_laws.proofs.CoordTurns.{takes_there, gentle_inquiry}
-use Rattle.federation_laws.proofs.Declared.{declared-in}
+use Rattle.federation_laws.proofs.ForCallers.{declared-in}
 use Rattle.closing_laws.proofs.Delivered.{item_behind, give_told, sent_behind}
 use Rattle.closing_laws.proofs.Onward.{IsCalm, Onward, onward_here, onward_on, onward_next, at_home, gentle_ask, gentle_give}
 use Rattle.fed_rules.specs.Attempts.{each_attempt}
-use Rattle.rules_laws.proofs.EachAttempt.{in_each}
-use Rattle.rules_laws.proofs.Doubts.{in_sorted}
-use Rattle.site_history.proofs.LiveOnes.{found_in}
-use Rattle.commit_laws.proofs.FoundSessions.{CoordinatorFits}
-use Rattle.commit_laws.proofs.SiteEnds.{settles-records}
+use Rattle.site_history.proofs.ForCallers.{found_in}
 
 -- the site is in doubt of the attempt
 abbrev pub doubt_at : Home → Story → Tid → Option Held

@@ -1,39 +1,40 @@
-pub mod AllAlone
-pub mod AloneBound
-pub mod AloneSites
-pub mod BegunOnce
-pub mod Bound
-pub mod Calm
-pub mod Clear
-pub mod Closed
-pub mod CoordTurns
-pub mod CoordView
-pub mod Decisions
-pub mod Declared
-pub mod Delivered
-pub mod Dues
-pub mod EndKnown
-pub mod Exchange
-pub mod FewAttempts
-pub mod FewSends
-pub mod FewSites
-pub mod FewTids
-pub mod Flow
-pub mod FlowSteps
-pub mod FlowVotes
-pub mod GiveUp
-pub mod GlobalAlone
-pub mod GlobalFlow
-pub mod Growth
-pub mod Inquire
-pub mod Lengths
-pub mod LocalAlone
-pub mod Locals
-pub mod Onward
-pub mod OthersStay
-pub mod Published
-pub mod Quiet
-pub mod Ready
-pub mod Unbegun
-pub mod SentPlaces
-pub mod OpenRuns
+pub mod ForCallers
+mod AllAlone
+mod AloneBound
+mod AloneSites
+mod BegunOnce
+mod Bound
+mod Calm
+mod Clear
+mod Closed
+mod CoordTurns
+mod CoordView
+mod Decisions
+mod Declared
+mod Delivered
+mod Dues
+mod EndKnown
+mod Exchange
+mod FewAttempts
+mod FewSends
+mod FewSites
+mod FewTids
+mod Flow
+mod FlowSteps
+mod FlowVotes
+mod GiveUp
+mod GlobalAlone
+mod GlobalFlow
+mod Growth
+mod Inquire
+mod Lengths
+mod LocalAlone
+mod Locals
+mod Onward
+mod OthersStay
+mod Published
+mod Quiet
+mod Ready
+mod Unbegun
+mod SentPlaces
+mod OpenRuns

@@ -11,10 +11,7 @@ use Rattle.mdb_base.specs.declared.names.Tx.{Tx}
 use Rattle.mdb_base.specs.Names.{same_site, same_tx}
 use Rattle.mdb_base.specs.Programs.{plain_act}
 use Rattle.mdb_base.specs.Words.{Each, item_at}
-use Rattle.mdb_base.proofs.ListLaws.{each_map}
-use Rattle.mdb_base.proofs.Words.{when-false, cond-false}
-use Rattle.mdb_base.proofs.NameLaws.{same_site-equal, same_site-refl, same_tx-refl}
-use Rattle.mdb_base.proofs.OptionLaws.{given_some, given_none}
+use Rattle.mdb_base.proofs.ForCallers.{cond-false, each_map, given_none, given_some, same_site-equal, same_site-refl, same_tx-refl, when-false}
 use Rattle.fed_rules.specs.declared.answers.Answer.TheVariants as Say
 use Rattle.fed_rules.specs.declared.commands.Command.{Command}
 use Rattle.fed_rules.specs.declared.commands.Command.TheVariants as Cmd
@@ -33,13 +30,12 @@ use Rattle.fed_rules.specs.Site.{site_line, answered, with_lines, next_number, o
 use Rattle.fed_rules.specs.SitePast.{SiteHappening, SitePast, disk, records, trip_of, epoch_start, engine_lines, live_one, live, live_of_tx, attempts_of}
 use Rattle.fed_rules.specs.SiteRecords.{Home, site_frame, start_of, local_of, doubt_of}
 use Rattle.fed_rules.specs.Story.{Story, AtSite, past_of, coord_past, with_site, most_attempts, attempt, run_reads, happens, story_of, on_local, requested}
-use Rattle.engine_laws.proofs.Drawers.{IsDrawer, AllDrew, all_drew}
+use Rattle.engine_laws.proofs.ForCallers.{AllDrew, IsAlone, IsDrawer, access_granted, access_of, acts_alone, all_drew, begins_alone, commits_alone, seal_free}
 use Rattle.site_history.specs.Lines.{Agrees}
 use Rattle.site_history.specs.SiteOrders.{HasEpochs}
 use Rattle.site_history.specs.Stories.{StoriesHaveRightLines, OfSites}
-use Rattle.federation_laws.proofs.Told.{local_home-declared}
+use Rattle.federation_laws.proofs.ForCallers.{local_home-declared}
 use Rattle.closing_laws.specs.Alone.{IsFinished, LocalsCommitAlone}
-use Rattle.engine_laws.proofs.AloneAt.{IsAlone, access_granted, seal_free, access_of, acts_alone, begins_alone, commits_alone}
 use Rattle.closing_laws.proofs.Calm.{IsReady, ready_next}
 use Rattle.closing_laws.proofs.Delivered.{item_behind}
 use Rattle.closing_laws.proofs.Locals.{found_live, live_is_found}

@@ -7,10 +7,9 @@ use Rattle.mdb_base.specs.declared.names.Tx.{Tx}
 use Rattle.mdb_base.specs.Names.{same_site, same_tx}
 use Rattle.mdb_base.specs.Words.{when, given, first_where, map_some}
 use Rattle.mdb_base.specs.declared.replies.Reply.TheVariants as Reply_is
-use Rattle.mdb_base.proofs.NameLaws.{same_site-equal, same_tx-equal}
-use Rattle.mdb_base.proofs.OptionLaws.{some_parts}
+use Rattle.mdb_base.proofs.ForCallers.{same_site-equal, same_tx-equal, some_parts}
 use Rattle.presumptions.specs.declared.Decision.{Decision}
-use Rattle.order_laws.proofs.Lists.{first_where_some}
+use Rattle.order_laws.proofs.ForCallers.{first_where_some}
 use Rattle.fed_rules.specs.declared.answers.Answer.TheVariants as Say
 use Rattle.fed_rules.specs.declared.commands.Command.{Command}
 use Rattle.fed_rules.specs.declared.events.SiteEvent.{SiteEvent}
@@ -27,16 +26,10 @@ use Rattle.fed_rules.specs.Site.{site_line, answered, of_begin, reply_to, of_act
 use Rattle.fed_rules.specs.SitePast.{SiteHappening, SitePast, disk, trip, epoch_start, engine_lines, live, live_of_tx, attempts_of, begins_tx, is_local}
 use Rattle.fed_rules.specs.SiteRecords.{Home, site_frame}
 use Rattle.fed_rules.specs.Story.{Story, Happened, AtSite, AtCoordinator, Nowhere, past_of, with_site, happens, story_of}
-use Rattle.engine_laws.proofs.Runs.{tid_is}
-use Rattle.engine_laws.proofs.AloneAt.{found_from}
-use Rattle.engine_laws.proofs.RunLines.{is_live_of}
+use Rattle.engine_laws.proofs.ForCallers.{found_from, is_live_of, tid_is}
 use Rattle.site_history.specs.Stories.{StoriesHaveRightLines}
-use Rattle.site_history.proofs.LineAnswers.{act_begins-none, refusal_answer-is}
-use Rattle.site_history.proofs.LiveOnes.{none_live}
-use Rattle.federation_laws.proofs.LocalLines.{local-made}
-use Rattle.federation_laws.proofs.LocalMoves.{LocalMove, Made, Opens, Rests, Gone, Opening, Granting, Closing}
-use Rattle.federation_laws.proofs.LocalStories.{not-asked}
-use Rattle.federation_laws.proofs.Told.{local_home-declared, SiteCause, IsSiteLine, IsLine, line_is}
+use Rattle.site_history.proofs.ForCallers.{act_begins-none, none_live, refusal_answer-is}
+use Rattle.federation_laws.proofs.ForCallers.{Closing, Gone, Granting, IsLine, IsSiteLine, LocalMove, Made, Opening, Opens, Rests, SiteCause, line_is, local-made, local_home-declared, not-asked}
 
 -- what begins an attempt of the transaction is a `begin` of it
 abbrev pub IsBeginOf : Tx → SiteEvent → Type 0

@@ -5,9 +5,7 @@ use Rattle.mdb_base.specs.declared.names.Tid.{Tid}
 use Rattle.mdb_base.specs.declared.names.Tx.{Tx}
 use Rattle.mdb_base.specs.Names.{same_site}
 use Rattle.mdb_base.specs.Words.{when, given, item_at}
-use Rattle.mdb_base.proofs.NameLaws.{same_site-equal}
-use Rattle.mdb_base.proofs.OptionLaws.{some_parts}
-use Rattle.mdb_base.proofs.PlaceLaws.{item_at-front}
+use Rattle.mdb_base.proofs.ForCallers.{item_at-front, same_site-equal, some_parts}
 use Rattle.presumptions.specs.declared.Decision.{Decision}
 use Rattle.fed_rules.specs.declared.answers.Answer.{Answer}
 use Rattle.fed_rules.specs.declared.answers.Answer.TheVariants as Say
@@ -25,11 +23,11 @@ use Rattle.fed_rules.specs.Site.{site_line, of_give}
 use Rattle.fed_rules.specs.SitePast.{SiteHappening, records, live, trip_of, is_local}
 use Rattle.fed_rules.specs.SiteRecords.{Home, doubt_of}
 use Rattle.fed_rules.specs.Story.{Story, Happened, AtSite, AtCoordinator, Nowhere, past_of, coord_past, sent_to, sends_to, at_site, on_site, on_give, happens}
-use Rattle.commit_laws.proofs.Links.{home-again}
+use Rattle.commit_laws.proofs.ForCallers.{home-again}
 use Rattle.closing_laws.proofs.Calm.{IsReady, ready_next, gives, aborts_here, drops, asks, IsMild, decide_mild, abort_mild, drop_mild, ask_mild, IsCoordMild}
-use Rattle.coord_laws.proofs.Facts.{is_undecided}
+use Rattle.coord_laws.proofs.ForCallers.{is_undecided}
 use Rattle.rules_laws.specs.Lines.{IsLine}
-use Rattle.rules_laws.proofs.Lines.{line_is}
+use Rattle.rules_laws.proofs.ForCallers.{line_is}
 
 -- every actor is up, and no trip is armed
 pub record IsCalm (story : Story) : Type 0 where

@@ -6,12 +6,10 @@ use Rattle.mdb_base.specs.declared.names.Tid.{Tid}
 use Rattle.mdb_base.specs.declared.names.Tx.{Tx}
 use Rattle.mdb_base.specs.Names.{same_site, same_tid, same_tx}
 use Rattle.mdb_base.specs.Words.{Among, how_many, with_some}
-use Rattle.mdb_base.proofs.NameLaws.{same_tid-refl, same_tx-equal, same_site-equal, tests_agree}
-use Rattle.mdb_base.proofs.OptionLaws.{some_parts}
-use Rattle.mdb_base.proofs.EachLaws.{among_split}
+use Rattle.mdb_base.proofs.ForCallers.{among_split, same_site-equal, same_tid-refl, same_tx-equal, some_parts, tests_agree}
 use Rattle.presumptions.specs.declared.Decision.{Decision}
 use Rattle.order_laws.specs.Chains.{In}
-use Rattle.order_laws.proofs.Lists.{among_is, is_among}
+use Rattle.order_laws.proofs.ForCallers.{among_is, is_among}
 use Rattle.fed_rules.specs.declared.answers.Answer.{Answer}
 use Rattle.fed_rules.specs.declared.answers.Answer.TheVariants as Say
 use Rattle.fed_rules.specs.declared.commands.Command.{Command}
@@ -36,20 +34,12 @@ use Rattle.fed_rules.specs.SitePast.{SiteHappening, SitePast, attempts_of, begin
 use Rattle.fed_rules.specs.SiteRecords.{Home, local_of}
 use Rattle.fed_rules.specs.Story.{Story, Happened, AtSite, AtCoordinator, Nowhere, coord_past, happens, past_of, story_of}
 use Rattle.rules_laws.specs.Lines.{CoordCause, IsLine, IsCoordLine, SiteCause}
-use Rattle.rules_laws.proofs.Lines.{line_is}
-use Rattle.rules_laws.proofs.Disks.{cut_old, cut_stays}
+use Rattle.rules_laws.proofs.ForCallers.{cut_old, cut_stays, line_is}
 use Rattle.coord_laws.specs.Records.{IsCommit, IsEnd}
-use Rattle.coord_laws.proofs.Facts.{Same, Starts, Decides, Forgets, Restarts, WroteAll, is_undecided}
-use Rattle.coord_laws.proofs.Lines.{Kept as Coord_kept, Line, Stood, Stopped, Through, coord_lines}
-use Rattle.coord_laws.proofs.Sound.{begins_go, end_commit, kept_stays}
+use Rattle.coord_laws.proofs.ForCallers.{Decides, Forgets, Kept as Coord_kept, Line, Restarts, Same, Starts, Stood, Stopped, Through, WroteAll, begins_go, coord_lines, end_commit, is_undecided, kept_stays}
 use Rattle.commit_laws.specs.Records.{IsLooseEnded}
-use Rattle.commit_laws.proofs.ForgettingProofs.{next-turn}
-use Rattle.commit_laws.proofs.SealProofs.{next-line}
-use Rattle.commit_laws.proofs.SiteLines.{Kept}
-use Rattle.federation_laws.proofs.Members.{record-from}
-use Rattle.federation_laws.proofs.SiteLocals.{local-by-commit}
-use Rattle.federation_laws.proofs.StoryGlobals.{live_of_tx-is}
-use Rattle.federation_laws.proofs.Told.{local_home-declared}
+use Rattle.commit_laws.proofs.ForCallers.{Kept, next-line, next-turn}
+use Rattle.federation_laws.proofs.ForCallers.{live_of_tx-is, local-by-commit, local_home-declared, record-from}
 use Rattle.closing_laws.specs.Finished.{begun, begun_at}
 use Rattle.closing_laws.proofs.Decisions.{commit_of}
 use Rattle.closing_laws.proofs.Locals.{Begins, IsBeginOf, by_line}

@@ -6,12 +6,11 @@ use Rattle.mdb_base.specs.declared.names.SiteTicket.{SiteTicket}
 use Rattle.mdb_base.specs.declared.names.Tid.{Tid}
 use Rattle.mdb_base.specs.Names.{same_site}
 use Rattle.mdb_base.specs.Words.{Each, Among, when, given, or_else}
-use Rattle.mdb_base.proofs.NameLaws.{same_site-equal}
-use Rattle.mdb_base.proofs.EachLaws.{among_append}
+use Rattle.mdb_base.proofs.ForCallers.{among_append, same_site-equal}
 use Rattle.presumptions.specs.declared.Decision.{Decision}
 use Rattle.order_laws.specs.Chains.{In}
 use Rattle.order_laws.specs.Tickets.{Ticketed}
-use Rattle.order_laws.proofs.Lists.{each_at}
+use Rattle.order_laws.proofs.ForCallers.{each_at}
 use Rattle.fed_rules.specs.declared.answers.Answer.TheVariants as Say
 use Rattle.fed_rules.specs.declared.commands.Command.{Command}
 use Rattle.fed_rules.specs.declared.events.SiteEvent.{SiteEvent}
@@ -40,17 +39,11 @@ use Rattle.fed_rules.specs.SiteRecords.{Home, site_frame, start_of, last_ticket,
 use Rattle.fed_rules.specs.Story.{Story, Happened, AtSite, AtCoordinator, Nowhere, past_of, coord_past, with_coordinator, sent_from, sends_from, happens, story_of}
 use Rattle.rules_laws.specs.Pasts.{PastsAreMadeByEvents}
 use Rattle.site_history.specs.Records.{IsPrepared}
-use Rattle.engine_laws.proofs.Tickets.{published_grows, published_at}
-use Rattle.coord_laws.proofs.RecordLists.{among_commit}
-use Rattle.federation_laws.proofs.Agreement.{IsSaid}
-use Rattle.federation_laws.proofs.CommitOnce.{votes-sent}
-use Rattle.coord_laws.proofs.Made.{IsLastVote, Writes}
-use Rattle.site_history.proofs.LocalLines.{refusal_plain, act_plain}
-use Rattle.site_history.proofs.Agreement.{live_is}
-use Rattle.federation_laws.proofs.StoryGlobals.{story-holds, story-agrees, coord-made}
-use Rattle.coord_laws.proofs.Cycles.{commits_whole}
-use Rattle.commit_laws.proofs.SiteEnds.{settles-records}
-use Rattle.federation_laws.proofs.Told.{CoordCause, IsLine, line_is}
+use Rattle.engine_laws.proofs.ForCallers.{published_at, published_grows}
+use Rattle.coord_laws.proofs.ForCallers.{IsLastVote, Writes, among_commit, commits_whole}
+use Rattle.federation_laws.proofs.ForCallers.{CoordCause, IsLine, IsSaid, coord-made, line_is, story-agrees, story-holds, votes-sent}
+use Rattle.site_history.proofs.ForCallers.{act_plain, live_is, refusal_plain}
+use Rattle.commit_laws.proofs.ForCallers.{settles-records}
 use Rattle.closing_laws.specs.Given.{CommittedTicketsArePublished}
 use Rattle.closing_laws.proofs.CoordView.{voted, vote_views}
 use Rattle.closing_laws.proofs.FlowVotes.{commit_in, named_votes}

@@ -4,7 +4,7 @@ use Rattle.mdb_base.specs.declared.names.SiteId.{SiteId}
 use Rattle.mdb_base.specs.declared.names.Tid.{Tid}
 use Rattle.mdb_base.specs.Words.{those, found, with_some}
 use Rattle.order_laws.specs.Chains.{In}
-use Rattle.order_laws.proofs.Lists.{in_those}
+use Rattle.order_laws.proofs.ForCallers.{in_those}
 use Rattle.fed_rules.specs.declared.commands.Command.{Command}
 use Rattle.fed_rules.specs.declared.scenario.Scenario.{Scenario}
 use Rattle.fed_rules.specs.Closing.{rising, live_at, in_doubt_at}
@@ -14,17 +14,14 @@ use Rattle.fed_rules.specs.Scenarios.{home_of, protocols}
 use Rattle.fed_rules.specs.SitePast.{epoch_start, engine_lines, live_one, live, records}
 use Rattle.fed_rules.specs.SiteRecords.{Home, Held, doubt_of, prepared_tids, by_tid}
 use Rattle.fed_rules.specs.Story.{Story, coord_past, past_of, story_of}
-use Rattle.commit_laws.proofs.Agreed.{coord-sound}
-use Rattle.commit_laws.proofs.Links.{home-again}
-use Rattle.commit_laws.proofs.PreparedLaws.{nowhere}
+use Rattle.commit_laws.proofs.ForCallers.{coord-sound, home-again, nowhere}
 use Rattle.site_history.specs.Stories.{StoriesHaveRightLines}
-use Rattle.rules_laws.proofs.RisingLists.{rising_in}
+use Rattle.rules_laws.proofs.ForCallers.{rising_in}
 use Rattle.closing_laws.specs.AtRest.{IsAtRest}
 use Rattle.closing_laws.proofs.Clear.{live_listed}
-use Rattle.coord_laws.proofs.Begun.{begun_in}
+use Rattle.coord_laws.proofs.ForCallers.{begun_in, is_undecided}
 use Rattle.closing_laws.proofs.Inquire.{doubt_listed}
 use Rattle.closing_laws.proofs.Onward.{IsCalm}
-use Rattle.coord_laws.proofs.Facts.{is_undecided}
 use Rattle.fed_rules.specs.Attempts.{each_attempt}
 
 -- lists of what isn't there

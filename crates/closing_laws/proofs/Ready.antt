@@ -3,11 +3,10 @@ use Rattle.std.proofs.Common.{◌≡◌, ℕ, zero, suc, ◌⊎◌, Bool, true, 
 use Rattle.mdb_base.specs.declared.names.SiteId.{SiteId}
 use Rattle.mdb_base.specs.Names.{same_site}
 use Rattle.mdb_base.specs.Words.{given, those}
-use Rattle.mdb_base.proofs.Words.{when-true, when-false}
-use Rattle.mdb_base.proofs.NameLaws.{same_site-equal, same_site-refl}
+use Rattle.mdb_base.proofs.ForCallers.{same_site-equal, same_site-refl, when-false, when-true}
 use Rattle.presumptions.specs.declared.Participant.{Participant}
 use Rattle.order_laws.specs.Chains.{In}
-use Rattle.order_laws.proofs.Lists.{among_weaker, map_among, in_those}
+use Rattle.order_laws.proofs.ForCallers.{among_weaker, in_those, map_among}
 use Rattle.fed_rules.specs.declared.answers.Answer.TheVariants as Say
 use Rattle.fed_rules.specs.declared.commands.Command.{Command}
 use Rattle.fed_rules.specs.declared.commands.Command.TheVariants as Cmd
@@ -28,9 +27,9 @@ use Rattle.fed_rules.specs.Site.{site_line, of_back}
 use Rattle.fed_rules.specs.SitePast.{SitePast, disk, trip_of, trip}
 use Rattle.fed_rules.specs.SiteRecords.{Home, site_frame}
 use Rattle.fed_rules.specs.Story.{Story, Nowhere, past_of, coord_past, with_site, with_coordinator, at_site, on_site, on_actor, happens, story_in}
-use Rattle.commit_laws.proofs.Links.{its-site, home-again}
+use Rattle.commit_laws.proofs.ForCallers.{home-again, its-site}
 use Rattle.closing_laws.proofs.Calm.{IsReady, ready_next}
-use Rattle.federation_laws.proofs.Declared.{declared-in}
+use Rattle.federation_laws.proofs.ForCallers.{declared-in}
 use Rattle.closing_laws.proofs.Declared.{actor_hears}
 use Rattle.closing_laws.proofs.Onward.{IsCalm}
 use Rattle.fed_rules.specs.Policies.{Policy}

@@ -3,7 +3,7 @@ use Rattle.std.proofs.Common.{◌≡◌, ◌⊎◌, ℕ, suc, ◌+◌, ◌≤◌
 use Rattle.mdb_base.specs.declared.names.SiteId.{SiteId}
 use Rattle.mdb_base.specs.declared.names.Tid.{Tid}
 use Rattle.mdb_base.specs.Words.{given, when}
-use Rattle.mdb_base.proofs.TestLaws.{length_those}
+use Rattle.mdb_base.proofs.ForCallers.{length_those}
 use Rattle.presumptions.specs.declared.Participant.{Participant}
 use Rattle.fed_rules.specs.declared.answers.Answer.TheVariants as Say
 use Rattle.fed_rules.specs.declared.commands.Command.{Command}
@@ -29,9 +29,9 @@ use Rattle.fed_rules.specs.SitePast.{SiteHappening, SitePast, disk, records, tri
 use Rattle.fed_rules.specs.SiteRecords.{Held, Home, doubt_of, site_frame}
 use Rattle.fed_rules.specs.Story.{Story, Happened, AtSite, AtCoordinator, Nowhere, coord_past, happens, past_of, place_from, places_of, sent_from, sent_to, story_in}
 use Rattle.rules_laws.specs.Lines.{CoordCause, IsLine}
-use Rattle.rules_laws.proofs.Lines.{line_is}
-use Rattle.commit_laws.proofs.FoundSessions.{CoordinatorFits, session_sound}
-use Rattle.coord_laws.proofs.Past.{any_member}
+use Rattle.rules_laws.proofs.ForCallers.{line_is}
+use Rattle.commit_laws.proofs.ForCallers.{CoordinatorFits, session_sound}
+use Rattle.coord_laws.proofs.ForCallers.{any_member}
 use Rattle.closing_laws.proofs.CoordTurns.{takes_there}
 use Rattle.closing_laws.proofs.Delivered.{sent_behind}
 use Rattle.closing_laws.proofs.FewSends.{SendsFew, agains_few, inquiries_few}

@@ -4,10 +4,10 @@ use Rattle.mdb_base.specs.declared.names.Tid.{Tid}
 use Rattle.mdb_base.specs.declared.names.Tx.{Tx}
 use Rattle.mdb_base.specs.Names.{same_site, same_tid}
 use Rattle.mdb_base.specs.Words.{Each, when, given, some_of}
-use Rattle.mdb_base.proofs.NameLaws.{same_tid-equal, same_tid-refl, same_tx-equal}
+use Rattle.mdb_base.proofs.ForCallers.{same_tid-equal, same_tid-refl, same_tx-equal}
 use Rattle.presumptions.specs.declared.Decision.{Decision}
 use Rattle.order_laws.specs.Chains.{In}
-use Rattle.order_laws.proofs.Lists.{each_at}
+use Rattle.order_laws.proofs.ForCallers.{each_at}
 use Rattle.fed_rules.specs.declared.answers.Answer.TheVariants as Say
 use Rattle.fed_rules.specs.declared.commands.Command.{Command}
 use Rattle.fed_rules.specs.declared.events.SiteEvent.{SiteEvent}
@@ -25,16 +25,9 @@ use Rattle.fed_rules.specs.Site.{site_line, answered, with_lines, of_ask, of_dro
 use Rattle.fed_rules.specs.SitePast.{SiteHappening, SitePast, disk, records, trip, live, live_of_tx, is_closed, decides_on, ends}
 use Rattle.fed_rules.specs.SiteRecords.{Home, site_frame, local_of, doubt_of}
 use Rattle.fed_rules.specs.Story.{Story, Happened, AtSite, AtCoordinator, Nowhere, past_of, coord_past, with_site, with_coordinator, sent_to, happens, story_of}
-use Rattle.coord_laws.proofs.Begun.{more_attempts as attempts_grow}
-use Rattle.commit_laws.proofs.Agreed.{agreed, coord-sound}
-use Rattle.commit_laws.proofs.PreparedLaws.{nowhere}
-use Rattle.federation_laws.proofs.Asked.{IsOf}
-use Rattle.federation_laws.proofs.CoordHolds.{is_begun}
-use Rattle.federation_laws.proofs.LocalLines.{NotAsked, local-made}
-use Rattle.federation_laws.proofs.LocalMoves.{LocalMove, Made, Rests, Gone, Opening, Granting, Closing}
-use Rattle.federation_laws.proofs.SiteAbout.{IsAbout, begin_about, act_about, commit_about, abort_about, work_about, take_about, prepare_about, decide_about, drop_about}
-use Rattle.federation_laws.proofs.StoryGlobals.{story-holds, story-agrees, live_of_tx-is}
-use Rattle.federation_laws.proofs.Told.{SiteCause, IsLine, line_is}
+use Rattle.coord_laws.proofs.ForCallers.{more_attempts as attempts_grow}
+use Rattle.commit_laws.proofs.ForCallers.{agreed, coord-sound, nowhere}
+use Rattle.federation_laws.proofs.ForCallers.{Closing, Gone, Granting, IsAbout, IsLine, IsOf, LocalMove, Made, NotAsked, Opening, Rests, SiteCause, abort_about, act_about, begin_about, commit_about, decide_about, drop_about, is_begun, line_is, live_of_tx-is, local-made, prepare_about, story-agrees, story-holds, take_about, work_about}
 use Rattle.closing_laws.specs.Given.{UnbegunAreOpen}
 use Rattle.closing_laws.proofs.Locals.{IsHere, line_here}
 

@@ -27,8 +27,7 @@ use Rattle.rules_laws.specs.Durable.{IsFirm}
 use Rattle.commit_laws.specs.Records.{IsPrepared, IsEnded, IsLooseEnded}
 use Rattle.commit_laws.specs.Seals.{seals}
 use Rattle.commit_laws.proofs.Links.{member_of, IsGlobal}
-use Rattle.coord_laws.proofs.Facts.{IsOpen}
-use Rattle.coord_laws.proofs.Sound.{IsBegun, CoordSound}
+use Rattle.coord_laws.proofs.ForCallers.{CoordSound, IsBegun, IsOpen}
 use Rattle.commit_laws.proofs.SiteFacts.{Shut}
 use Rattle.commit_laws.proofs.SiteLists.{IsTidy}
 

@@ -7,8 +7,7 @@ use Rattle.mdb_base.specs.declared.names.Tid.{Tid}
 use Rattle.mdb_base.specs.declared.replies.Reply.{Reply}
 use Rattle.mdb_base.specs.Names.{same_site}
 use Rattle.mdb_base.specs.Words.{Each, Among, those}
-use Rattle.mdb_base.proofs.NameLaws.{same_tid-refl, same_site-equal}
-use Rattle.mdb_base.proofs.EachLaws.{among_append, among_split}
+use Rattle.mdb_base.proofs.ForCallers.{among_append, among_split, same_site-equal, same_tid-refl}
 use Rattle.order_laws.specs.Chains.{In}
 use Rattle.presumptions.specs.declared.Decision.{Decision}
 use Rattle.presumptions.specs.declared.Decision.TheVariants as Decided
@@ -35,13 +34,7 @@ use Rattle.fed_rules.specs.SiteRecords.{Home}
 use Rattle.commit_laws.specs.Seals.{seals}
 use Rattle.commit_laws.proofs.Agree.{IsGot, IsOver, Prepares, Decides, HasSealed, Agree}
 use Rattle.commit_laws.proofs.Links.{IsGlobal, member_of}
-use Rattle.coord_laws.proofs.Clear.{coord_turn}
-use Rattle.coord_laws.proofs.Facts.{is_undecided, IsOpen, IsPreparing, IsTelling, Now, Known, Presumed, Says, Tells, Counted}
-use Rattle.coord_laws.proofs.RecordLists.{commit_named, decided_outcome}
-use Rattle.coord_laws.proofs.Rules.{open_undecided}
-use Rattle.coord_laws.proofs.Sound.{begins_go, Declared, IsBegun, named_stays_some, decided_not_open, program_stays}
-use Rattle.coord_laws.proofs.Turns.{Turn, fresh, same_program, same_outcome, stays_closed, uncommitted_of, is_participant}
-use Rattle.coord_laws.proofs.Taken.{Counting, Unchanged, Cleared, Adds, counting, ticket_counted}
+use Rattle.coord_laws.proofs.ForCallers.{Adds, Cleared, Counted, Counting, Declared, IsBegun, IsOpen, IsPreparing, IsTelling, Known, Now, Presumed, Says, Tells, Turn, Unchanged, begins_go, commit_named, coord_turn, counting, decided_not_open, decided_outcome, fresh, is_participant, is_undecided, named_stays_some, open_undecided, program_stays, same_outcome, same_program, stays_closed, ticket_counted, uncommitted_of}
 
 -- the next line of the coordinator, where the invariant holds
 pub record CoordNext (scenario : Scenario) (home : Home) (g : Tid) (past : CoordPast) (here : SitePast) (sent : List ToSite)

@@ -4,10 +4,9 @@ use Rattle.std.proofs.lemmas.Bool.{or_left}
 use Rattle.mdb_base.specs.declared.names.Tid.{Tid}
 use Rattle.mdb_base.specs.declared.replies.Reply.{Reply}
 use Rattle.mdb_base.specs.Words.{Each, Among, some_of}
-use Rattle.mdb_base.proofs.NameLaws.{same_tid-refl}
-use Rattle.mdb_base.proofs.EachLaws.{among_append, among_split}
+use Rattle.mdb_base.proofs.ForCallers.{among_append, among_split, same_tid-refl}
 use Rattle.order_laws.specs.Chains.{In}
-use Rattle.order_laws.proofs.Lists.{each_at}
+use Rattle.order_laws.proofs.ForCallers.{each_at, same_of}
 use Rattle.presumptions.specs.declared.Decision.{Decision}
 use Rattle.presumptions.specs.Table.{forces}
 use Rattle.fed_rules.specs.declared.answers.Answer.TheVariants as Say
@@ -29,13 +28,12 @@ use Rattle.fed_rules.specs.SiteRecords.{Home, doubt_of, epoch_of}
 use Rattle.commit_laws.specs.Records.{IsPrepared, IsEnded, IsLooseEnded}
 use Rattle.commit_laws.specs.Seals.{seals}
 use Rattle.commit_laws.proofs.Agree.{IsGot, IsOver, HasSealed, Agree}
-use Rattle.rules_laws.proofs.Disks.{cut_stays, cut_old}
+use Rattle.rules_laws.proofs.ForCallers.{cut_old, cut_stays}
 use Rattle.commit_laws.proofs.Links.{IsGlobal}
 use Rattle.commit_laws.proofs.SiteFacts.{IsSealing, IsSettling, IsAcking, Wrote, Says, Settled, NotBegun}
 use Rattle.commit_laws.proofs.SiteLines.{Kept, Line}
 use Rattle.commit_laws.proofs.SiteLists.{Free, IsTidy, tidy-behind, tidy-doubt, settled-ended, epoch-cut, loose-prepared, loose-forced}
 use Rattle.commit_laws.proofs.SiteWork.{held-prepared}
-use Rattle.order_laws.proofs.Alike.{same_of}
 
 -- the next line of a site, where the invariant holds
 pub record SiteTurn (scenario : Scenario) (home : Home) (g : Tid) (past : CoordPast) (here : SitePast) (sent : List ToSite)

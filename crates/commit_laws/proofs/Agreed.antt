@@ -3,8 +3,7 @@ use Rattle.std.proofs.Common.{◌≡◌, ℕ, inl, inr, Bool, true, false, cond,
 use Rattle.mdb_base.specs.declared.names.SiteId.{SiteId}
 use Rattle.mdb_base.specs.declared.names.Tid.{Tid}
 use Rattle.mdb_base.specs.Names.{same_tid, same_site}
-use Rattle.mdb_base.proofs.NameLaws.{same_tid-equal}
-use Rattle.mdb_base.proofs.JoinLaws.{append_nil}
+use Rattle.mdb_base.proofs.ForCallers.{append_nil, same_tid-equal}
 use Rattle.fed_rules.specs.declared.commands.Command.{Command}
 use Rattle.fed_rules.specs.declared.events.CoordEvent.{CoordEvent}
 use Rattle.fed_rules.specs.declared.events.SiteEvent.{SiteEvent}
@@ -20,16 +19,13 @@ use Rattle.fed_rules.specs.Story.{Story, Happened, AtSite, AtCoordinator, Nowher
 use Rattle.rules_laws.specs.Durable.{IsFirm}
 use Rattle.commit_laws.specs.Records.{IsLooseEnded}
 use Rattle.commit_laws.proofs.Links.{story_goes_on, numbered, member_of, IsGlobal, SiteCame, CoordCame, Linked, linked, linked-here, not-both}
-use Rattle.coord_laws.proofs.Past.{past_sound, any_member}
-use Rattle.coord_laws.proofs.Sound.{IsBegun, begins_go, CoordSound}
+use Rattle.coord_laws.proofs.ForCallers.{CoordSound, IsBegun, Turn, any_member, begins_go, coord_lines, past_sound}
 use Rattle.fed_rules.specs.CoordPast.{begins}
 use Rattle.commit_laws.proofs.Agree.{Agree, Agrees}
 use Rattle.commit_laws.proofs.AgreeCoord.{CoordNext, coord-next}
 use Rattle.commit_laws.proofs.AgreeSite.{SiteTurn, site-turn}
-use Rattle.coord_laws.proofs.Lines.{coord_lines}
-use Rattle.coord_laws.proofs.Turns.{Turn}
 use Rattle.commit_laws.proofs.Declared.{is-declared}
-use Rattle.rules_laws.proofs.Disks.{firm_quiet}
+use Rattle.rules_laws.proofs.ForCallers.{firm_quiet}
 use Rattle.commit_laws.proofs.SiteFacts.{NotBegun}
 use Rattle.commit_laws.proofs.SiteLines.{site-lines}
 

@@ -5,9 +5,7 @@ use Rattle.mdb_base.specs.declared.names.SiteId.{SiteId}
 use Rattle.mdb_base.specs.Names.{same_site}
 use Rattle.mdb_base.specs.Words.{Among, inserted, Each, some_of}
 use Rattle.mdb_base.specs.Rising.{IsRising}
-use Rattle.mdb_base.proofs.ListLaws.{each_inserted}
-use Rattle.mdb_base.proofs.NameLaws.{same_site-equal}
-use Rattle.mdb_base.proofs.OptionLaws.{some_parts}
+use Rattle.mdb_base.proofs.ForCallers.{each_inserted, same_site-equal, some_parts}
 use Rattle.presumptions.specs.declared.Participant.{Participant}
 use Rattle.presumptions.specs.declared.Protocol.{Protocol}
 use Rattle.fed_rules.specs.declared.scenario.ItemLine.{ItemLine}
@@ -17,7 +15,7 @@ use Rattle.fed_rules.specs.Coord.{protocol_of}
 use Rattle.fed_rules.specs.Scenarios.{home_in, home_of, items_of, protocols_in, protocols}
 use Rattle.fed_rules.specs.SiteRecords.{Home}
 use Rattle.fed_rules.specs.Plans.{one_site, IsScenario, all_differ}
-use Rattle.rules_laws.proofs.Scenarios.{MembersRise}
+use Rattle.rules_laws.proofs.ForCallers.{MembersRise}
 
 abbrev pub by_site : Participant → Participant → Bool
 by_site a b = nat_lt a.site.0 b.site.0

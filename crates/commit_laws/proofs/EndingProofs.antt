@@ -2,7 +2,7 @@
 use Rattle.std.proofs.Common.{◌≡◌, ◌↔◌, inl, inr, Bool, true, false, cond, ◌||◌, Option, Some, None, List, [], ◌∷◌, refl, sym, ap, subst, ◌∙◌}
 use Rattle.mdb_base.specs.declared.names.SiteId.{SiteId}
 use Rattle.mdb_base.specs.declared.names.Tid.{Tid}
-use Rattle.mdb_base.proofs.NameLaws.{same_tid-refl}
+use Rattle.mdb_base.proofs.ForCallers.{same_tid-refl}
 use Rattle.presumptions.specs.declared.Decision.{Decision}
 use Rattle.presumptions.specs.declared.Participant.{Participant}
 use Rattle.fed_rules.specs.declared.answers.Answer.TheVariants as Say
@@ -22,11 +22,7 @@ use Rattle.commit_laws.specs.Endings.{StoriesEndAlike, StoriesForgetExactly, Sto
 use Rattle.commit_laws.specs.Forgetting.{IsNextOfCoordinator}
 use Rattle.commit_laws.proofs.Agreed.{agreed}
 use Rattle.commit_laws.proofs.Links.{member_of, home-again, its-site}
-use Rattle.coord_laws.proofs.Facts.{is_undecided, IsOpen, Same, Starts, Decides, Forgets, Restarts}
-use Rattle.coord_laws.proofs.Lines.{Stood, Stopped, Through}
-use Rattle.coord_laws.proofs.Sound.{IsBegun, still_open}
-use Rattle.coord_laws.proofs.Turns.{fresh, same_outcome}
-use Rattle.coord_laws.proofs.Begun.{begun_answer}
+use Rattle.coord_laws.proofs.ForCallers.{Decides, Forgets, IsBegun, IsOpen, Restarts, Same, Starts, Stood, Stopped, Through, begun_answer, fresh, is_undecided, same_outcome, still_open}
 use Rattle.commit_laws.proofs.ForgettingProofs.{next-turn, known-while-missing, forgotten-when-none-is-missing, restarts-count-anew, forgotten-are-acknowledged, inquiries-are-answered-the-outcome}
 use Rattle.commit_laws.proofs.OutcomeLaws.{settles-say-the-outcome}
 use Rattle.commit_laws.proofs.PreparedLaws.{nowhere}

@@ -3,7 +3,7 @@ use Rattle.std.proofs.Common.{◌≡◌, inl, inr, Bool, true, false, cond, not,
 use Rattle.mdb_base.specs.declared.names.SiteId.{SiteId}
 use Rattle.mdb_base.specs.declared.names.Tid.{Tid}
 use Rattle.mdb_base.specs.Words.{those, when}
-use Rattle.mdb_base.proofs.Words.{when-false}
+use Rattle.mdb_base.proofs.ForCallers.{when-false}
 use Rattle.order_laws.specs.Chains.{In}
 use Rattle.presumptions.specs.declared.Participant.{Participant}
 use Rattle.presumptions.specs.Table.{acks, presumed}
@@ -30,15 +30,10 @@ use Rattle.commit_laws.proofs.Agree.{Agrees}
 use Rattle.commit_laws.proofs.AgreeCoord.{presumes-right}
 use Rattle.commit_laws.proofs.Agreed.{agreed, turn, coord-sound}
 use Rattle.commit_laws.proofs.Links.{member_of, IsNext, linked, home-again, its-site}
-use Rattle.coord_laws.proofs.Clear.{all_missing, named_stays}
-use Rattle.coord_laws.proofs.Facts.{is_undecided, IsOpen, Same, Starts, Decides, Forgets, Restarts}
-use Rattle.coord_laws.proofs.Lines.{Stood, Stopped, Through}
-use Rattle.coord_laws.proofs.RecordLists.{decided_outcome}
-use Rattle.coord_laws.proofs.Turns.{Turn, same_outcome, uncommitted_of}
+use Rattle.coord_laws.proofs.ForCallers.{Decides, Forgets, IsOpen, Restarts, Same, Starts, Stood, Stopped, Through, Turn, all_missing, decided_outcome, is_undecided, named_stays, same_outcome, uncommitted_of}
 use Rattle.commit_laws.proofs.Declared.{is-declared}
-use Rattle.rules_laws.proofs.Disks.{appended}
-use Rattle.order_laws.proofs.Lists.{those_same}
-use Rattle.order_laws.proofs.InLaws.{those-in}
+use Rattle.rules_laws.proofs.ForCallers.{appended}
+use Rattle.order_laws.proofs.ForCallers.{those-in, those_same}
 use Rattle.commit_laws.proofs.PreparedLaws.{nowhere}
 use Rattle.commit_laws.proofs.SealProofs.{over-free}
 use Rattle.commit_laws.proofs.SiteWork.{held-prepared}

@@ -3,7 +3,7 @@
 use Rattle.std.proofs.Common.{◌≡◌, Option, Some, None, List, [], ◌∷◌, ◌++◌, map, refl, sym, ap, ◌∙◌, subst, inl, inr}
 use Rattle.mdb_base.specs.declared.names.SiteId.{SiteId}
 use Rattle.mdb_base.specs.declared.names.Tid.{Tid}
-use Rattle.mdb_base.proofs.JoinLaws.{append_nil}
+use Rattle.mdb_base.proofs.ForCallers.{append_nil}
 use Rattle.presumptions.specs.declared.Participant.{Participant}
 use Rattle.fed_rules.specs.declared.commands.Command.{Command}
 use Rattle.fed_rules.specs.declared.records.CoordRecord.{CoordRecord}
@@ -18,8 +18,7 @@ use Rattle.fed_rules.specs.SitePast.{SitePast}
 use Rattle.fed_rules.specs.SiteRecords.{Home}
 use Rattle.fed_rules.specs.Story.{AtCoordinator, AtSite, Happened, Nowhere, Story, coord_past, found_coordinator, found_site, found_sites, happens, home_found, story_in, untold, with_coordinator}
 use Rattle.coord_laws.specs.Pasts.{IsGoingOn, IsOpened}
-use Rattle.coord_laws.proofs.Past.{past_sound}
-use Rattle.coord_laws.proofs.Sound.{CoordSound}
+use Rattle.coord_laws.proofs.ForCallers.{CoordSound, past_sound}
 use Rattle.commit_laws.proofs.Links.{Linked, linked, numbered}
 
 -- lines of the coordinator are its past, and lines of a site are none of it

@@ -5,10 +5,9 @@ use Rattle.mdb_base.specs.declared.acts.Step.{Step}
 use Rattle.mdb_base.specs.declared.names.Tid.{Tid}
 use Rattle.mdb_base.specs.Names.{same_site}
 use Rattle.mdb_base.specs.Words.{Among, given}
-use Rattle.mdb_base.proofs.NameLaws.{same_tid-equal, same_site-refl, same_site-equal}
-use Rattle.mdb_base.proofs.Words.{when-false}
+use Rattle.mdb_base.proofs.ForCallers.{same_site-equal, same_site-refl, same_tid-equal, when-false}
 use Rattle.presumptions.specs.declared.Decision.{Decision}
-use Rattle.order_laws.proofs.Lists.{some_of_is, is_among}
+use Rattle.order_laws.proofs.ForCallers.{is_among, some_of_is}
 use Rattle.fed_rules.specs.declared.answers.Answer.TheVariants as Say
 use Rattle.fed_rules.specs.declared.commands.Command.{Command}
 use Rattle.fed_rules.specs.declared.events.SiteEvent.{SiteEvent}
@@ -32,7 +31,7 @@ use Rattle.commit_laws.proofs.Agreed.{agreed, at-site}
 use Rattle.commit_laws.proofs.Links.{IsNext, linked, linked-here}
 use Rattle.commit_laws.proofs.SealProofs.{Next, next-line, sealed-twice}
 use Rattle.commit_laws.proofs.SiteFacts.{IsSealing, Shut}
-use Rattle.rules_laws.proofs.Declared.{home-again, its-site}
+use Rattle.rules_laws.proofs.ForCallers.{home-again, its-site}
 use Rattle.commit_laws.proofs.Trips.{HasCalls, trips_have_calls, uncalled}
 
 -- the event is a decision on the attempt

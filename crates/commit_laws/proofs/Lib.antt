@@ -1,25 +1,26 @@
-pub mod Agree
-pub mod AgreeCoord
-pub mod AgreeSite
-pub mod Agreed
-pub mod Declared
-pub mod EndingProofs
-pub mod ForgettingProofs
-pub mod LaterRunProofs
-pub mod FoundSessions
-pub mod Links
-pub mod OutcomeLaws
-pub mod PreparedLaws
-pub mod Refuted
-pub mod RightRules
-pub mod SealProofs
-pub mod Silent
-pub mod SiteEnds
-pub mod SiteFacts
-pub mod SiteLines
-pub mod SiteLists
-pub mod SiteRules
-pub mod SiteShut
-pub mod SiteWork
-pub mod Trips
-pub mod Walks
+pub mod ForCallers
+mod Agree
+mod AgreeCoord
+mod AgreeSite
+mod Agreed
+mod Declared
+mod EndingProofs
+mod ForgettingProofs
+mod LaterRunProofs
+mod FoundSessions
+mod Links
+mod OutcomeLaws
+mod PreparedLaws
+mod Refuted
+mod RightRules
+mod SealProofs
+mod Silent
+mod SiteEnds
+mod SiteFacts
+mod SiteLines
+mod SiteLists
+mod SiteRules
+mod SiteShut
+mod SiteWork
+mod Trips
+mod Walks

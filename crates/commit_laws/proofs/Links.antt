@@ -6,11 +6,10 @@ use Rattle.mdb_base.specs.declared.names.Tid.{Tid}
 use Rattle.mdb_base.specs.declared.names.Tx.{Tx}
 use Rattle.mdb_base.specs.Names.{same_site}
 use Rattle.mdb_base.specs.Words.{map_some}
-use Rattle.mdb_base.proofs.NameLaws.{same_site-equal}
-use Rattle.mdb_base.proofs.OptionLaws.{some_parts}
+use Rattle.mdb_base.proofs.ForCallers.{same_site-equal, some_parts}
 use Rattle.order_laws.specs.Chains.{In}
 use Rattle.presumptions.specs.declared.Participant.{Participant}
-use Rattle.order_laws.proofs.InLaws.{item_at-in}
+use Rattle.order_laws.proofs.ForCallers.{item_at-in}
 use Rattle.fed_rules.specs.declared.commands.Command.{Command}
 use Rattle.fed_rules.specs.declared.commands.Command.TheVariants as Cmd
 use Rattle.fed_rules.specs.declared.events.CoordEvent.{CoordEvent}
@@ -27,11 +26,11 @@ use Rattle.fed_rules.specs.SitePast.{SiteHappening}
 use Rattle.fed_rules.specs.SiteRecords.{Home}
 use Rattle.fed_rules.specs.Story.{Story, Happened, AtSite, AtCoordinator, Nowhere, past_of, coord_past, story_of, with_coordinator, sent_to, sent_from, happens}
 use Rattle.coord_laws.specs.Pasts.{IsGoingOn, IsNumbered, IsMadeByEvents}
-use Rattle.coord_laws.proofs.Past.{going_on}
+use Rattle.coord_laws.proofs.ForCallers.{going_on}
 use Rattle.commit_laws.specs.Pasts.{CoordinatorsAreMadeByEvents}
 use Rattle.rules_laws.specs.Lines.{SiteCause, CoordCause, IsLine}
-pub use Rattle.rules_laws.proofs.Declared.{home-again, its-site}
-use Rattle.rules_laws.proofs.Lines.{line_is}
+pub use Rattle.rules_laws.proofs.ForCallers.{home-again, its-site}
+use Rattle.rules_laws.proofs.ForCallers.{line_is}
 
 -- the attempt is one of a global transaction
 abbrev pub IsGlobal : Scenario → Tid → Type 0

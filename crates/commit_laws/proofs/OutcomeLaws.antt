@@ -9,7 +9,7 @@ use Rattle.fed_rules.specs.Story.{past_of, story_of}
 use Rattle.commit_laws.specs.Outcomes.{coordinator_keeps, Settles, SettlesSayTheOutcome, SettlesCommitWhereKept, SitesAgree}
 use Rattle.coord_laws.specs.Records.{IsCommit}
 use Rattle.commit_laws.proofs.Agreed.{agreed}
-use Rattle.coord_laws.proofs.RecordLists.{commit_among, among_commit, outcome_is}
+use Rattle.coord_laws.proofs.ForCallers.{among_commit, commit_among, outcome_is}
 use Rattle.commit_laws.proofs.Links.{home-again, its-site}
 
 pub settles-say-the-outcome : SettlesSayTheOutcome

@@ -5,13 +5,12 @@ use Rattle.mdb_base.specs.declared.names.SiteId.{SiteId}
 use Rattle.mdb_base.specs.declared.names.Tid.{Tid}
 use Rattle.mdb_base.specs.Names.{same_site}
 use Rattle.mdb_base.specs.Words.{Among, inserted}
-use Rattle.mdb_base.proofs.NameLaws.{same_site-refl}
+use Rattle.mdb_base.proofs.ForCallers.{same_site-refl}
 use Rattle.order_laws.specs.Chains.{In}
-use Rattle.order_laws.proofs.Lists.{among_is}
+use Rattle.order_laws.proofs.ForCallers.{among_is, those-in}
 use Rattle.presumptions.specs.declared.Decision.TheVariants as Decided
 use Rattle.presumptions.specs.declared.Participant.{Participant}
 use Rattle.presumptions.specs.declared.Protocol.TheVariants.{Nothing}
-use Rattle.order_laws.proofs.InLaws.{those-in}
 use Rattle.fed_rules.specs.declared.answers.Answer.{Answer}
 use Rattle.fed_rules.specs.declared.answers.Answer.TheVariants as Say
 use Rattle.fed_rules.specs.declared.commands.Command.{Command}
@@ -38,11 +37,9 @@ use Rattle.commit_laws.specs.Records.{IsPrepared, IsLooseEnded}
 use Rattle.commit_laws.proofs.Links.{member_of, Linked, linked, home-again, its-site}
 use Rattle.coord_laws.specs.Records.{IsCommit}
 use Rattle.commit_laws.proofs.Agreed.{agreed, turn, coord-sound}
-use Rattle.coord_laws.proofs.Facts.{Committed}
-use Rattle.coord_laws.proofs.Sound.{IsYes, kept_stays, end_commit}
-use Rattle.coord_laws.proofs.Turns.{Turn}
+use Rattle.coord_laws.proofs.ForCallers.{Committed, IsYes, Turn, end_commit, kept_stays}
 use Rattle.commit_laws.proofs.Declared.{is-declared, by_site}
-use Rattle.rules_laws.proofs.Durable.{safe_or_loose}
+use Rattle.rules_laws.proofs.ForCallers.{safe_or_loose}
 use Rattle.commit_laws.proofs.SiteLists.{loose-prepared}
 
 yes-ticket : (g : Tid) (site : SiteId) (past : CoordPast) → Among (λ x. IsYes g site x.event) past

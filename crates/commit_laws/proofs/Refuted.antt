@@ -16,8 +16,7 @@ use Rattle.fed_rules.specs.CoordRecords.{outcome}
 use Rattle.fed_rules.specs.SitePast.{SitePast, epoch}
 use Rattle.fed_rules.specs.SiteRecords.{Home}
 use Rattle.fed_rules.specs.Story.{coord_past, past_of}
-use Rattle.fed_rules.proofs.Opened.{opened}
-use Rattle.fed_rules.proofs.Spelled.{at, tid, set, site, step_at, global, scenario_of, go, give, take, ask, late, again, halt, trip, back}
+use Rattle.fed_rules.proofs.ForCallers.{again, ask, at, back, give, global, go, halt, late, opened, scenario_of, set, site, step_at, take, tid, trip}
 use Rattle.commit_laws.specs.WrongRules.{Rules, story_by, aborts_acknowledged_early, commits_forgotten_at_once, abort_always_presumed, commit_always_presumed, prepares_sent_early, epochs_ignored, torn_records_kept, BreaksTheOutcome, SealsElsewhere, BreaksTheEpoch, SealsALaterRun}
 use Rattle.commit_laws.specs.Seals.{seals, IsPrepareOf}
 

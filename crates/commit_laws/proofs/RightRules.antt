@@ -9,7 +9,7 @@ use Rattle.fed_rules.specs.Site.{site_line}
 use Rattle.fed_rules.specs.Story.{Happened, AtSite, AtCoordinator, Nowhere, past_of, coord_past, happens, story_of}
 use Rattle.commit_laws.specs.WrongRules.{at_home, made_by, story_by, right_rules}
 use Rattle.commit_laws.proofs.Agreed.{agreed, coord-sound}
-use Rattle.coord_laws.proofs.Lines.{coord_lines}
+use Rattle.coord_laws.proofs.ForCallers.{coord_lines}
 use Rattle.commit_laws.proofs.Links.{IsNext, linked, home-again, its-site}
 use Rattle.commit_laws.proofs.PreparedLaws.{nowhere}
 use Rattle.commit_laws.proofs.SiteLines.{site-lines}

@@ -3,7 +3,7 @@ use Rattle.std.proofs.Common.{◌≡◌, Bool, true, false, cond, None, List, []
 use Rattle.std.proofs.lemmas.List.{append-nil}
 use Rattle.mdb_base.specs.declared.names.SiteId.{SiteId}
 use Rattle.mdb_base.specs.Names.{same_site}
-use Rattle.mdb_base.proofs.NameLaws.{same_site-equal}
+use Rattle.mdb_base.proofs.ForCallers.{same_site-equal}
 use Rattle.fed_rules.specs.declared.commands.Command.{Command}
 use Rattle.fed_rules.specs.declared.scenario.Scenario.{Scenario}
 use Rattle.fed_rules.specs.Scenarios.{home_of}

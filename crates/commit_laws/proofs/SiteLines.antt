@@ -15,7 +15,7 @@ use Rattle.fed_rules.specs.SiteRecords.{Home, site_frame}
 use Rattle.rules_laws.specs.Durable.{IsFirm}
 use Rattle.commit_laws.specs.Records.{IsPrepared, IsLooseEnded}
 use Rattle.commit_laws.specs.Seals.{appends_prepared, seals}
-use Rattle.rules_laws.proofs.Disks.{appended, IsCut, Keeps, left_by_line, left_by_stop, quiet_plain}
+use Rattle.rules_laws.proofs.ForCallers.{IsCut, Keeps, appended, left_by_line, left_by_stop, quiet_plain}
 use Rattle.commit_laws.proofs.SiteFacts.{IsSealing, Wrote, WroteOne, Says, Settled, NotBegun, Shut, Step}
 use Rattle.commit_laws.proofs.SiteShut.{restored-sealed}
 use Rattle.commit_laws.proofs.SiteEnds.{by-answered, by-back}

@@ -24,7 +24,7 @@ use Rattle.fed_rules.specs.SitePast.{SiteHappening, SitePast, records, epoch_sta
 use Rattle.fed_rules.specs.SiteRecords.{Home, Held, doubt_of}
 use Rattle.commit_laws.proofs.SiteFacts.{Says, Settled, NotBegun, Shut, Step}
 use Rattle.commit_laws.proofs.SiteShut.{Leaves, leaves-shut, other-line, other-lines, this-line, given-up, shut-on}
-use Rattle.order_laws.proofs.Alike.{of_same}
+use Rattle.order_laws.proofs.ForCallers.{of_same}
 
 pub step-when : (home : Home) (g : Tid) (past : SitePast) (event : SiteEvent) (b : Bool) (x y : SiteHappening)
     → (b ≡ true → Step home g past event x) → (b ≡ false → Step home g past event y) → Step home g past event (when b x y)

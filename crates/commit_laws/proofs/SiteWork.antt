@@ -8,8 +8,7 @@ use Rattle.mdb_base.specs.declared.replies.Reply.TheVariants as Reply_is
 use Rattle.mdb_base.specs.declared.replies.Why.{Why}
 use Rattle.mdb_base.specs.Names.{same_tid}
 use Rattle.mdb_base.specs.Words.{Among}
-use Rattle.mdb_base.proofs.NameLaws.{same_tid-equal}
-use Rattle.mdb_base.proofs.OptionLaws.{some_parts}
+use Rattle.mdb_base.proofs.ForCallers.{same_tid-equal, some_parts}
 use Rattle.fed_rules.specs.declared.answers.Answer.TheVariants as Say
 use Rattle.fed_rules.specs.declared.events.SiteEvent.TheVariants as Ev
 use Rattle.fed_rules.specs.declared.messages.FromSite.TheVariants as From
@@ -27,7 +26,7 @@ use Rattle.commit_laws.specs.Records.{IsPrepared}
 use Rattle.commit_laws.proofs.SiteFacts.{IsSealing, Shut, Step}
 use Rattle.commit_laws.proofs.SiteShut.{other-line, other-lines, this-line, given-up, sealed-now, shut-on}
 use Rattle.commit_laws.proofs.SiteRules.{step-when, step-given, IsNoDecision, Touches, no-lines, one-line, calm, acts-stay, takes-stay}
-use Rattle.order_laws.proofs.Alike.{of_same}
+use Rattle.order_laws.proofs.ForCallers.{of_same}
 
 -- an operation's answer
 by-did : (home : Home) (g : Tid) (past : SitePast) (message : ToSite) (tid : Tid) (n : ℕ) (reply : Reply) (lines : List EngineLine)

@@ -3,8 +3,7 @@ use Rattle.std.proofs.Common.{◌≡◌, ◌<◌, ◌==◌, ◌-◌, Bool, true,
 use Rattle.std.proofs.lemmas.Bool.{leb-false, leb-true}
 use Rattle.mdb_base.specs.Names.{same_site}
 use Rattle.mdb_base.specs.Words.{when}
-use Rattle.mdb_base.proofs.NameLaws.{same_site-equal}
-use Rattle.mdb_base.proofs.NumberLaws.{positive}
+use Rattle.mdb_base.proofs.ForCallers.{positive, same_site-equal}
 use Rattle.fed_rules.specs.declared.answers.Answer.{Answer}
 use Rattle.fed_rules.specs.declared.answers.Answer.TheVariants as Say
 use Rattle.fed_rules.specs.declared.commands.Command.{Command}
@@ -18,7 +17,7 @@ use Rattle.fed_rules.specs.SitePast.{SiteHappening, SitePast, disk, trip, trip_o
 use Rattle.fed_rules.specs.SiteRecords.{Home, site_frame}
 use Rattle.fed_rules.specs.Story.{Happened, AtSite, AtCoordinator, Nowhere, happens, past_of, story_of, with_site}
 use Rattle.rules_laws.specs.Lines.{IsLine}
-use Rattle.rules_laws.proofs.Lines.{line_is}
+use Rattle.rules_laws.proofs.ForCallers.{line_is}
 
 -- the trip in force has calls left
 abbrev pub HasCalls : Option Trip → Type 0

@@ -7,11 +7,10 @@ use Rattle.std.proofs.lemmas.Nat.{and_le_l}
 use Rattle.mdb_base.specs.declared.names.SiteId.{SiteId}
 use Rattle.mdb_base.specs.Names.{same_site}
 use Rattle.mdb_base.specs.Words.{some_of, each_of}
-use Rattle.mdb_base.proofs.ListLaws.{among_some}
-use Rattle.mdb_base.proofs.NameLaws.{same_site-equal, same_site-refl}
+use Rattle.mdb_base.proofs.ForCallers.{among_some, same_site-equal, same_site-refl}
 use Rattle.fed_rules.specs.Policies.{conservatively, share_site}
 use Rattle.order_laws.specs.Chains.{In}
-use Rattle.order_laws.proofs.Lists.{bool_is, some_of_is, is_among, those_in, in_those}
+use Rattle.order_laws.proofs.ForCallers.{bool_is, in_those, is_among, some_of_is, those_in}
 use Rattle.global_exec.specs.declared.policy.SiteSet.{SiteSet}
 use Rattle.global_exec.specs.Live.{all_sites}
 use Rattle.global_exec.specs.Sets.{has_site, sites_in}

@@ -25,8 +25,7 @@ use Rattle.coord_core.specs.Stands.{Stands}
 use Rattle.coord_core.specs.Store.{Keeps}
 use Rattle.coord_tables.specs.Tables.{IsServing}
 use Rattle.coord_tables.specs.Terms.{Terms, IsSound}
-use Rattle.coord_tables.proofs.Serving.{attempts_same, range_same}
-use Rattle.coord_tables.proofs.Aborts.{abort_line, aborted, aborts_are, is_recorded, listed}
+use Rattle.coord_tables.proofs.ForCallers.{abort_line, aborted, aborts_are, attempts_same, is_recorded, listed, range_same}
 
 module _ (terms : Terms) (past : CoordPast) (event : CoordEvent) (tid : Tid) (printed : Cause) (i : IsAborting terms past event tid printed) (sound : IsSound terms past) where
   abbrev x : CoordHappening

@@ -24,8 +24,7 @@ use Rattle.coord_core.specs.Stands.{Stands}
 use Rattle.coord_core.specs.Store.{Keeps}
 use Rattle.coord_tables.specs.Tables.{IsServing}
 use Rattle.coord_tables.specs.Terms.{Terms}
-use Rattle.coord_tables.proofs.Serving.{attempts_same, range_same}
-use Rattle.coord_tables.proofs.Acking.{ack_line, ack_goes, ack_stays, ack_begins, ack_heard, ack_silent, ack_prints, table_end, ack_follows}
+use Rattle.coord_tables.proofs.ForCallers.{ack_begins, ack_follows, ack_goes, ack_heard, ack_line, ack_prints, ack_silent, ack_stays, attempts_same, range_same, table_end}
 
 -- and the disk calls are to be made
 pub ack_pending : {P : Type 0} (test : P → Policy) (tells : Bool) (step : CoordStep) (old new : CoordCore P) (before after : Seen) (terms : Terms) (past : CoordPast) (site : SiteId) (tid : Tid) (d : Decision) (end : AckEnd)

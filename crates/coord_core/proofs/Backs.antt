@@ -14,15 +14,15 @@ use Rattle.fed_rules.specs.CoordPast.{CoordHappening, CoordPast, attempts_of}
 use Rattle.fed_rules.specs.CoordPast as Past
 use Rattle.fed_rules.specs.CoordRecords.{coord_frame, is_kept, recorded}
 use Rattle.fed_rules.specs.Policies.{Policy}
-use Rattle.rules_laws.proofs.Durable.{none_lost, whole_all}
-use Rattle.coord_laws.proofs.Past.{any_member, past_sound}
+use Rattle.rules_laws.proofs.ForCallers.{none_lost, whole_all}
+use Rattle.coord_laws.proofs.ForCallers.{any_member, past_sound}
 use Rattle.journal_disk.specs.Disk.{Seen}
 use Rattle.actor_store.specs.declared.errors.StepErr.TheVariants as Err_is
 use Rattle.actor_store.specs.declared.store.Break.TheVariants.{Stopped, Failed}
 use Rattle.actor_store.specs.declared.store.Standing.{Standing}
 use Rattle.actor_store.specs.declared.store.Standing.TheVariants.{Up, Down, Failing}
 use Rattle.actor_store.specs.Store.{Ends, IsInOrder, Passes, cut_calls, is_up}
-use Rattle.actor_store.proofs.FromLaws.{from_later, from_trip}
+use Rattle.actor_store.proofs.ForCallers.{from_later, from_trip}
 use Rattle.coord_core.specs.declared.coord.CoordCore.{CoordCore}
 use Rattle.coord_tables.specs.Trees.{noted}
 use Rattle.coord_core.specs.Found.{opens, was_found}
@@ -32,7 +32,7 @@ use Rattle.coord_tables.specs.Tables.{IsServing}
 use Rattle.coord_tables.specs.Terms.{Terms, IsSound, line_of}
 use Rattle.coord_core.proofs.Endings.{passes_is, stop_prints, trip_line, trips_is}
 use Rattle.coord_core.proofs.Events.{down_line}
-use Rattle.coord_tables.proofs.Serving.{sound_more}
+use Rattle.coord_tables.proofs.ForCallers.{sound_more}
 use Rattle.coord_core.proofs.Still.{down_is, kept_records, stands_stop, stop_line}
 
 abbrev no_cut : List (Call CoordRecord)

@@ -19,7 +19,7 @@ use Rattle.actor_store.specs.declared.store.Standing.TheVariants.{Up, Down, Fail
 use Rattle.global_exec.specs.declared.policy.SiteSet.{SiteSet}
 use Rattle.global_exec.specs.Live as live
 use Rattle.global_exec.specs.Live.{Live, all_due, live_of}
-use Rattle.global_exec.proofs.Agrees.{all_due-outstanding}
+use Rattle.global_exec.proofs.ForCallers.{all_due-outstanding}
 use Rattle.protocol_table.specs.declared.known.Known.{Known}
 use Rattle.protocol_table.specs.Agreement.{IsKnownAs}
 use Rattle.protocol_table.specs.Attempts.{known_of}
@@ -41,8 +41,7 @@ use Rattle.coord_tables.specs.Terms.{Terms, answer_of, line_of}
 use Rattle.coord_core.proofs.Endings.{ready_quiet}
 use Rattle.coord_core.proofs.Still.{serves, up_is}
 use Rattle.coord_tables.specs.Waiting.{waiting}
-use Rattle.coord_tables.proofs.Visits.{HasVisited, no_prepares, no_takes}
-use Rattle.coord_tables.proofs.Beginnings.{HasBegun, begun_line, begun_live, begun_serving, go_begins, noted_next}
+use Rattle.coord_tables.proofs.ForCallers.{HasBegun, HasVisited, begun_line, begun_live, begun_serving, go_begins, no_prepares, no_takes, noted_next}
 
 pub begun_steps : {P : Type 0} (test : P → Policy) (tells : Bool) (step : CoordStep) (old new : CoordCore P) (seen : Seen) (terms : Terms) (past : CoordPast) (tid : Tid) (steps : List Step) (set : SiteSet) (members : List Participant)
     → Stands test tells old seen terms past → old.store.standing ≡ Up → CanBegin tid steps terms past → HasVisited steps set → members ≡ participants_of old.protocols steps

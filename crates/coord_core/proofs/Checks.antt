@@ -26,7 +26,7 @@ use Rattle.frame_journal.specs.Journal.{records}
 use Rattle.coord_journal.specs.PayloadSizes.{payload_has_size}
 use Rattle.coord_journal.specs.Spelling.{spelling}
 use Rattle.actor_store.specs.declared.store.Standing.TheVariants.{Up}
-use Rattle.coord_laws.proofs.CoordRestarts.{going_journals_say_all}
+use Rattle.coord_laws.proofs.ForCallers.{going_journals_say_all}
 use Rattle.global_exec.specs.Live.{live_of}
 use Rattle.protocol_table.specs.Attempts.{known_of}
 use Rattle.coord_core.specs.declared.coord.CoordCore.{CoordCore}
@@ -37,11 +37,8 @@ use Rattle.coord_core.specs.Stands.{Holds, Stands, Steps}
 use Rattle.coord_core.specs.Store.{Keeps, Store}
 use Rattle.coord_tables.specs.Tables.{IsServing}
 use Rattle.coord_tables.specs.Terms.{Terms, answer_of, line_of}
-use Rattle.coord_tables.proofs.Calm.{quiet_calm}
+use Rattle.coord_tables.proofs.ForCallers.{IsAsBefore, elsewhere, held_still, known_stays, live_stays, quiet_calm, sent_as, stages_stay}
 use Rattle.coord_core.proofs.Events.{calm_steps}
-use Rattle.coord_tables.proofs.Lines.{IsAsBefore, elsewhere, known_stays, live_stays, sent_as}
-use Rattle.coord_tables.proofs.Waiting.{held_still}
-use Rattle.coord_tables.proofs.Serving.{stages_stay}
 use Rattle.coord_core.proofs.Still.{serves, up_is}
 
 -- ---- the journal

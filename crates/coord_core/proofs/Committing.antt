@@ -9,7 +9,7 @@ use Rattle.mdb_base.specs.Names.{same_tx}
 use Rattle.mdb_base.specs.Words.{map_some, or_else}
 use Rattle.order_laws.specs.Search.{cycle_through}
 use Rattle.order_laws.specs.Tickets.{IsCycle, Ticketed, edge_between}
-use Rattle.order_laws.proofs.Tickets.{cycle_found}
+use Rattle.order_laws.proofs.ForCallers.{cycle_found}
 use Rattle.presumptions.specs.declared.Decision.TheVariants as Decided
 use Rattle.fed_rules.specs.declared.answers.Answer.{Answer}
 use Rattle.fed_rules.specs.declared.answers.Answer.TheVariants as Say
@@ -48,10 +48,9 @@ use Rattle.coord_tables.specs.Tables.{IsServing}
 use Rattle.coord_tables.specs.Terms.{Terms, IsSound}
 use Rattle.coord_tables.specs.Voting.{IsLastVote, vote_event}
 use Rattle.coord_tables.specs.Waiting.{waiting}
-use Rattle.coord_tables.proofs.Serving.{attempts_same, range_same}
+use Rattle.coord_tables.proofs.ForCallers.{attempts_same, commit_forgets, commit_serving, commits_are, committed, last_commits, last_line, range_same}
 use Rattle.actor_store.specs.declared.store.Standing.{Standing as StoreStanding}
 use Rattle.actor_store.specs.declared.store.Standing.TheVariants.{Up, Down, Failing}
-use Rattle.coord_tables.proofs.Committing.{commit_forgets, commit_serving, committed, commits_are, last_commits, last_line}
 
 module _ (terms : Terms) (past : CoordPast) (site : SiteId) (tid : Tid) (ticket : ℕ) (tickets : List SiteTicket) (sound : IsSound terms past) (l : IsLastVote site tid ticket tickets terms past) where
   abbrev event : CoordEvent

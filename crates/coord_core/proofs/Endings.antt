@@ -3,8 +3,7 @@ use Rattle.std.proofs.Common.{◌≡◌, ℕ, zero, suc, ◌≤◌, ◌⊎◌, B
 use Rattle.std.proofs.lemmas.Bool.{cases_lt, cond-false, le-leb, leb-true}
 use Rattle.mdb_base.specs.declared.names.Tx.{Tx}
 use Rattle.mdb_base.specs.Words.{when}
-use Rattle.mdb_base.proofs.NumberLaws.{suc_not_zero}
-use Rattle.mdb_base.proofs.PlaceLaws.{take_none}
+use Rattle.mdb_base.proofs.ForCallers.{suc_not_zero, take_none}
 use Rattle.presumptions.specs.declared.Participant.{Participant}
 use Rattle.fed_rules.specs.declared.answers.Answer.{Answer}
 use Rattle.fed_rules.specs.declared.answers.Answer.TheVariants as Say
@@ -28,8 +27,7 @@ use Rattle.actor_store.specs.declared.store.Break.TheVariants.{Stopped, Failed}
 use Rattle.actor_store.specs.declared.store.Standing.{Standing}
 use Rattle.actor_store.specs.declared.store.Standing.TheVariants.{Up}
 use Rattle.actor_store.specs.Store.{Ends, Passes, is_up, stopped_disk}
-use Rattle.actor_store.proofs.EndsLaws.{passes_none, stopped_disk-all, used_none}
-use Rattle.actor_store.proofs.FromLaws.{from_later}
+use Rattle.actor_store.proofs.ForCallers.{from_later, passes_none, stopped_disk-all, used_none}
 use Rattle.coord_core.specs.declared.coord.CoordCore.{CoordCore}
 use Rattle.coord_tables.specs.declared.tables.Tables.{Tables}
 use Rattle.coord_tables.specs.Trees.{noted}
@@ -38,7 +36,7 @@ use Rattle.coord_tables.specs.Terms.{IsSound, IsUsual, Terms, answer_of, line_of
 use Rattle.coord_core.specs.Found.{opens, was_found}
 use Rattle.coord_core.specs.Stands.{Fails, Stands, Steps, StopsBefore, StopsWithin, TablesStand}
 use Rattle.coord_core.specs.Store.{Keeps}
-use Rattle.coord_tables.proofs.Serving.{attempts_same, sound_more}
+use Rattle.coord_tables.proofs.ForCallers.{attempts_same, sound_more}
 use Rattle.coord_core.proofs.Still.{kept_records, stands_stop, stop_line, stopped_is}
 use Rattle.coord_core.proofs.Trips.{trip_hidden}
 

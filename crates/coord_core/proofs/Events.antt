@@ -21,8 +21,7 @@ use Rattle.coord_laws.specs.Pasts.{IsNumbered}
 use Rattle.journal_disk.specs.Disk.{Seen}
 use Rattle.actor_store.specs.declared.store.Standing.TheVariants.{Up}
 use Rattle.actor_store.specs.Store.{Passes, StopsWith, is_up, trip_to}
-use Rattle.actor_store.proofs.EndsLaws.{passes_none}
-use Rattle.actor_store.proofs.TripLaws.{trip_to-armed, trip_to-rules}
+use Rattle.actor_store.proofs.ForCallers.{passes_none, trip_to-armed, trip_to-rules}
 use Rattle.coord_core.specs.declared.coord.CoordCore.{CoordCore}
 use Rattle.coord_tables.specs.Terms.{IsUsual, Terms, answer_of, line_of}
 use Rattle.coord_core.specs.Found.{was_found}
@@ -30,10 +29,8 @@ use Rattle.coord_core.specs.Stands.{Stands, Steps}
 use Rattle.coord_core.specs.Steps.{CanStep, Says}
 use Rattle.coord_core.specs.Store.{Keeps}
 use Rattle.coord_tables.specs.Trees.{noted}
-use Rattle.coord_tables.proofs.Calm.{quiet_calm, uncounted_calm}
-use Rattle.coord_tables.proofs.Inquiries.{fate_calm}
+use Rattle.coord_tables.proofs.ForCallers.{IsCalm, fate_calm, quiet_calm, uncounted_calm}
 use Rattle.coord_core.proofs.Endings.{halt_line, passes_is, stop_prints, trip_line, usual_line, usual_sets}
-use Rattle.coord_tables.proofs.Lines.{IsCalm}
 use Rattle.coord_core.proofs.Still.{stands_calm, stands_stop, down_is, up_is}
 
 -- the answer of a line that says nothing new is printed as it is

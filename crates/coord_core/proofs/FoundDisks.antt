@@ -17,8 +17,8 @@ use Rattle.fed_rules.specs.Found.{Journal}
 use Rattle.fed_rules.specs.Policies.{Policy}
 use Rattle.fed_rules.specs.Reopened.{commit_read, coord_reads_as, coord_sum_read, end_read, initiation_read, is_open_in, long_coord, oldest}
 use Rattle.fed_rules.specs.Usable.{IsUsableCoordinator}
-use Rattle.rules_laws.proofs.OpenedDisks.{expanded, opened_length, opened_lost, opened_records, opened_synced, opened_trimmed, torn_lost}
-use Rattle.coord_laws.proofs.CoordOpened.{no_length, nothing_read, torn_short}
+use Rattle.rules_laws.proofs.ForCallers.{expanded, opened_length, opened_lost, opened_records, opened_synced, opened_trimmed, torn_lost}
+use Rattle.coord_laws.proofs.ForCallers.{no_length, nothing_read, torn_short}
 use Rattle.journal_disk.specs.Disk.{Image, Seen}
 use Rattle.journal_disk.specs.Frames.{IsPayload}
 use Rattle.frame_journal.specs.Records.{entry_frame, spelled_size}
@@ -29,8 +29,8 @@ use Rattle.coord_journal.specs.Spelling.{IsRecord, reading, spelling}
 use Rattle.actor_store.specs.declared.store.Standing.TheVariants.{Down}
 use Rattle.actor_store.specs.Found.{IsFoundIn}
 use Rattle.actor_store.specs.Store.{IsFoundBehind, Old, stored}
-use Rattle.actor_store.proofs.FoundLaws.{found_in, left_in}
-use Rattle.mdb_base.proofs.EachLaws.{all_append}
+use Rattle.actor_store.proofs.ForCallers.{found_in, left_in}
+use Rattle.mdb_base.proofs.ForCallers.{all_append}
 use Rattle.coord_core.specs.declared.coord.CoordCore.{CoordCore}
 use Rattle.coord_core.specs.Found.{IsFoundOn, found_disk}
 use Rattle.coord_core.specs.Stands.{Stands}

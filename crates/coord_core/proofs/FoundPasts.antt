@@ -15,10 +15,10 @@ use Rattle.fed_rules.specs.Happenings.{Trip, is_down, quiet, stopped}
 use Rattle.fed_rules.specs.Policies.{Policy}
 use Rattle.fed_rules.specs.Reopened.{all_gone, all_heard, coord_read, coord_reads_as, long_coord, opened_coordinator, rewritten, torn_off}
 use Rattle.coord_laws.specs.Pasts.{IsMadeByEvents}
-use Rattle.coord_laws.proofs.MadeLines.{coord_made}
+use Rattle.coord_laws.proofs.ForCallers.{coord_made}
 use Rattle.journal_disk.specs.Disk.{Seen}
 use Rattle.actor_store.specs.Store.{Old, writes}
-use Rattle.actor_store.proofs.FromLaws.{writes_more}
+use Rattle.actor_store.proofs.ForCallers.{writes_more}
 use Rattle.coord_core.specs.Found.{is_halt, opens, was_found}
 use Rattle.coord_core.specs.Store.{Keeps, KeepsBehind, Store}
 

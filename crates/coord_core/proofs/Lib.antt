@@ -1,20 +1,21 @@
-pub mod Aborts
-pub mod Acking
-pub mod Backs
-pub mod Beginnings
-pub mod Checks
-pub mod Committing
-pub mod Endings
-pub mod Events
-pub mod FoundDisks
-pub mod FoundPasts
-pub mod New
-pub mod Opened
-pub mod Roomed
-pub mod Says
-pub mod Sent
-pub mod Still
-pub mod Taking
-pub mod Trips
-pub mod Voting
-pub mod Waits
+pub mod ForCallers
+mod Aborts
+mod Acking
+mod Backs
+mod Beginnings
+mod Checks
+mod Committing
+mod Endings
+mod Events
+mod FoundDisks
+mod FoundPasts
+mod New
+mod Opened
+mod Roomed
+mod Says
+mod Sent
+mod Still
+mod Taking
+mod Trips
+mod Voting
+mod Waits

@@ -17,16 +17,14 @@ use Rattle.coord_journal.specs.Spelling.{spelling, reading, IsRecord}
 use Rattle.actor_store.specs.declared.store.Standing.{Standing}
 use Rattle.actor_store.specs.declared.store.Standing.TheVariants.{Up}
 use Rattle.actor_store.specs.Store.{Stored, Keeps, is_up, stored}
-use Rattle.actor_store.proofs.FromLaws.{from_none}
-use Rattle.actor_store.proofs.NewLaws.{new_keeps}
+use Rattle.actor_store.proofs.ForCallers.{from_none, new_keeps}
 use Rattle.coord_core.specs.declared.coord.CoordCore.{CoordCore}
 use Rattle.coord_tables.specs.Trees.{noted}
 use Rattle.coord_core.specs.Stands.{IsEmptyDisk, Stands, TablesStand}
 use Rattle.coord_tables.specs.Terms.{Terms}
 use Rattle.coord_core.proofs.Still.{kept_records}
 use Rattle.coord_tables.specs.Tables.{AreEmpty}
-use Rattle.coord_tables.proofs.Empty.{nothing_served}
-use Rattle.coord_tables.proofs.OneActive.{nothing_alone}
+use Rattle.coord_tables.proofs.ForCallers.{nothing_alone, nothing_served}
 
 pub new_stands : {P : Type 0} (test : P → Policy) (core : CoordCore P) (protocols : List Participant) → IsRising (λ (m : Participant). m.site.0) protocols → Each (λ (m : Participant). IsSite m.site) protocols
     → core.protocols ≡ protocols → AreEmpty core.tables → core.begun.listed ≡ [] → stored core.store ≡ record { journal = new_journal; trip = None; standing = Up }

@@ -9,12 +9,9 @@ use Rattle.mdb_base.specs.declared.names.Tx.{Tx}
 use Rattle.mdb_base.specs.Counts.{HasCauseOf}
 use Rattle.mdb_base.specs.Rising.{IsRising}
 use Rattle.mdb_base.specs.Words.{Each}
-use Rattle.mdb_base.proofs.EachLaws.{each_by_place}
-use Rattle.mdb_base.proofs.ListLaws.{append_each, each_map}
-use Rattle.mdb_base.proofs.RisingLaws.{first_least, rising_rest}
+use Rattle.mdb_base.proofs.ForCallers.{append_each, each_by_place, each_map, first_least, rising_rest}
 use Rattle.order_laws.specs.Chains.{In}
-use Rattle.order_laws.proofs.Lists.{each_from}
-use Rattle.order_laws.proofs.Members.{in_each}
+use Rattle.order_laws.proofs.ForCallers.{each_from, in_each}
 use Rattle.presumptions.specs.declared.Participant.{Participant}
 use Rattle.field_bytes.specs.Fields.{IsTid}
 use Rattle.record_fields.specs.Named.{IsSite}
@@ -31,12 +28,10 @@ use Rattle.fed_rules.specs.Disk as DiskWords
 use Rattle.fed_rules.specs.Found.{Journal}
 use Rattle.fed_rules.specs.Policies.{Policy}
 use Rattle.fed_rules.specs.Reopened.{coord_read, coord_reads_as, long_coord, opened_coordinator}
-use Rattle.rules_laws.proofs.OpenedDisks.{opened_journal}
+use Rattle.rules_laws.proofs.ForCallers.{opened_journal}
 use Rattle.coord_laws.specs.FoundCoordinators.{MembersRise, RiseBySite}
 use Rattle.coord_laws.specs.Pasts.{IsOpened, NameDeclared}
-use Rattle.coord_laws.proofs.CoordOpened.{no_length, nothing_read, read_is, torn_short}
-use Rattle.coord_laws.proofs.OpenedPasts.{opened_begun, opened_disk}
-use Rattle.coord_laws.proofs.UsableCoordinators.{names_declared, usable_go_on}
+use Rattle.coord_laws.proofs.ForCallers.{names_declared, no_length, nothing_read, opened_begun, opened_disk, read_is, torn_short, usable_go_on}
 use Rattle.journal_disk.specs.Disk.{Image, Seen}
 use Rattle.frame_journal.specs.Journal.{records}
 use Rattle.coord_journal.specs.Spelling.{IsRecord}
@@ -53,8 +48,7 @@ use Rattle.coord_core.proofs.Still.{kept_records}
 use Rattle.coord_tables.specs.Found.{attempts_in, found_attempts}
 use Rattle.coord_tables.specs.Terms.{IsSound, Terms}
 use Rattle.coord_tables.specs.Trees.{noted}
-use Rattle.coord_tables.proofs.FoundAttempts.{attempts_found, named_recorded}
-use Rattle.coord_tables.proofs.OneActive.{opened_alone}
+use Rattle.coord_tables.proofs.ForCallers.{attempts_found, named_recorded, opened_alone}
 
 -- ---- the format
 

@@ -9,7 +9,7 @@ use Rattle.fed_rules.specs.Policies.{Policy}
 use Rattle.journal_disk.specs.Disk.{Seen}
 use Rattle.actor_store.specs.declared.store.Standing.{Standing}
 use Rattle.actor_store.specs.Store.{Old, is_up}
-use Rattle.actor_store.proofs.FromLaws.{from_kept}
+use Rattle.actor_store.proofs.ForCallers.{from_kept}
 use Rattle.coord_core.specs.declared.coord.CoordCore.{CoordCore}
 use Rattle.coord_core.specs.Stands.{Stands, TablesStand}
 use Rattle.coord_core.specs.Store.{KeepsBehind, Store}

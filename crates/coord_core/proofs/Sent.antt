@@ -24,9 +24,7 @@ use Rattle.coord_core.specs.Stands.{Stands}
 use Rattle.coord_core.specs.Store.{Keeps}
 use Rattle.coord_tables.specs.Tables.{IsServing}
 use Rattle.coord_tables.specs.Terms.{Terms}
-use Rattle.coord_tables.proofs.Calm.{IsCalmAnswer}
-use Rattle.coord_tables.proofs.Serving.{attempts_same, range_same}
-use Rattle.coord_tables.proofs.Sent.{prints_calm, says_calm, sent_is, sent_line}
+use Rattle.coord_tables.proofs.ForCallers.{IsCalmAnswer, attempts_same, prints_calm, range_same, says_calm, sent_is, sent_line}
 
 module _ (terms : Terms) (past : CoordPast) (event : CoordEvent) (tid : Tid) (taken : Option Taken) (defers : Bool) (dues : List Due) (exec exec_now : List Live) (i : IsSending terms past event tid taken defers dues exec exec_now) (b : Bool) where
   abbrev x : CoordHappening

@@ -21,8 +21,7 @@ use Rattle.actor_store.specs.declared.store.SetTrip.{SetTrip}
 use Rattle.actor_store.specs.declared.store.Standing.{Standing}
 use Rattle.actor_store.specs.declared.store.Standing.TheVariants.{Up, Down, Failing}
 use Rattle.actor_store.specs.Store.{IsArmed, is_up, trip_of_rules}
-use Rattle.actor_store.proofs.EndsLaws.{used_none}
-use Rattle.actor_store.proofs.FromLaws.{from_later, from_trip}
+use Rattle.actor_store.proofs.ForCallers.{from_later, from_trip, used_none}
 use Rattle.coord_core.specs.declared.coord.CoordCore.{CoordCore}
 use Rattle.coord_tables.specs.declared.tables.Tables.{Tables}
 use Rattle.coord_tables.specs.Trees.{noted}
@@ -31,8 +30,7 @@ use Rattle.coord_core.specs.Stands.{Holds, Stands, TablesStand}
 use Rattle.coord_core.specs.Store.{Keeps, Store}
 use Rattle.coord_tables.specs.Tables.{IsServing}
 use Rattle.coord_tables.specs.Terms.{Terms, IsSound, line_of}
-use Rattle.coord_tables.proofs.Lines.{IsCalm}
-use Rattle.coord_tables.proofs.Serving.{attempts_same, range_same, serving_calm, sound_more}
+use Rattle.coord_tables.proofs.ForCallers.{IsCalm, attempts_same, range_same, serving_calm, sound_more}
 
 -- a store has the records that stand on its disk
 pub kept_records : {found : Bool} (tells : Bool) (seen : Seen) (store : Store) (rules : Disk CoordRecord) (trip : Option Trip) → Keeps found tells seen store rules trip → records store.journal ≡ reverse (DiskWords.journal coord_frame rules)

@@ -16,7 +16,7 @@ use Rattle.fed_rules.specs.Coord.{answered, did_counts, of_inquiry, of_take}
 use Rattle.fed_rules.specs.CoordPast.{CoordPast}
 use Rattle.fed_rules.specs.Policies.{Policy}
 use Rattle.journal_disk.specs.Disk.{Seen}
-use Rattle.rules_laws.proofs.CoordPasts.{counts_open}
+use Rattle.rules_laws.proofs.ForCallers.{counts_open}
 use Rattle.actor_store.specs.declared.store.Standing.TheVariants.{Up}
 use Rattle.global_exec.specs.Counted.{counts}
 use Rattle.global_exec.specs.Live.{live_of}
@@ -28,10 +28,8 @@ use Rattle.coord_tables.specs.Replies.{reply_event}
 use Rattle.coord_core.specs.Stands.{Stands, Steps}
 use Rattle.coord_core.specs.Steps.{Says}
 use Rattle.coord_tables.specs.Terms.{Terms, answer_of, line_of}
-use Rattle.coord_tables.proofs.Calm.{uncounted_calm}
-use Rattle.coord_tables.proofs.Dids.{counts_are, did_dies, did_event, did_ignored, did_late, did_unknown}
+use Rattle.coord_tables.proofs.ForCallers.{counts_are, did_dies, did_event, did_ignored, did_late, did_unknown, inquiry_calm, uncounted_calm}
 use Rattle.coord_core.proofs.Events.{calm_steps}
-use Rattle.coord_tables.proofs.Inquiries.{inquiry_calm}
 use Rattle.coord_core.proofs.Still.{serves}
 
 -- the answer is that the reply counts, or that it doesn't

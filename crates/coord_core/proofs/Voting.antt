@@ -24,12 +24,10 @@ use Rattle.coord_core.specs.Stands.{Stands, Steps}
 use Rattle.coord_core.specs.Store.{Keeps}
 use Rattle.coord_tables.specs.Terms.{Terms, line_of}
 use Rattle.coord_tables.specs.Voting.{CountsVote, last_tickets, vote_event}
-use Rattle.coord_tables.proofs.Calm.{calm_answer, uncounted_calm}
+use Rattle.coord_tables.proofs.ForCallers.{awaits_are, calm_answer, prints_calm, uncounted_calm, vote_ignored, vote_more, vote_serving}
 use Rattle.coord_core.proofs.Endings.{pending_quiet}
 use Rattle.coord_core.proofs.Events.{calm_steps}
-use Rattle.coord_tables.proofs.Sent.{prints_calm}
 use Rattle.coord_core.proofs.Still.{serves, up_is}
-use Rattle.coord_tables.proofs.Voting.{awaits_are, vote_ignored, vote_more, vote_serving}
 
 -- ---- the steps
 

@@ -23,12 +23,9 @@ use Rattle.coord_tables.specs.Replies.{CountsReply, reply_event}
 use Rattle.coord_tables.specs.Sending.{after_taken}
 use Rattle.coord_core.specs.Stands.{Stands, Steps}
 use Rattle.coord_tables.specs.Terms.{Terms, line_of}
-use Rattle.coord_tables.proofs.Calm.{calm_answer}
-use Rattle.coord_tables.proofs.Dids.{did_event, did_waits}
+use Rattle.coord_tables.proofs.ForCallers.{calm_answer, did_event, did_waits, prints_calm, wait_serving}
 use Rattle.coord_core.proofs.Endings.{pending_quiet}
-use Rattle.coord_tables.proofs.Sent.{prints_calm}
 use Rattle.coord_core.proofs.Still.{serves, up_is}
-use Rattle.coord_tables.proofs.Waits.{wait_serving}
 
 -- the line of a wait
 pub wait_steps : {P : Type 0} (test : P → Policy) (tells : Bool) (step : CoordStep) (old new : CoordCore P) (seen : Seen) (terms : Terms) (past : CoordPast) (site : SiteId) (tid : Tid) (epoch n : ℕ) (by : Tid)

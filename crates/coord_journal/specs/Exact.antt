@@ -6,8 +6,8 @@ use Rattle.std.proofs.lemmas.List.{append-nil}
 use Rattle.fed_rules.specs.declared.records.CoordRecord.{CoordRecord}
 use Rattle.fed_rules.specs.declared.records.CoordRecord.TheVariants.{Initiation, Commit, Abort, End, Checkpoint}
 use Rattle.byte_numbers.specs.Numbers.{IsBytes, Takes, number, number_at, ◌>>=◌}
-use Rattle.byte_numbers.proofs.Numbers.{number_takes}
-use Rattle.field_bytes.proofs.Steps.{bind_some, number_then}
+use Rattle.byte_numbers.proofs.ForCallers.{number_takes}
+use Rattle.field_bytes.proofs.ForCallers.{bind_some, number_then}
 use Rattle.record_fields.specs.Field.{IsExact, both, at_end}
 use Rattle.record_fields.specs.Exact.{exact_both, exact_made, variant_takes, variant_again, ends_there}
 use Rattle.record_fields.specs.ExactNamed.{exact_tid, exact_participants, exact_tickets}

@@ -4,7 +4,7 @@ use Rattle.fed_rules.specs.declared.records.CoordRecord.{CoordRecord}
 use Rattle.fed_rules.specs.declared.records.CoordRecord.TheVariants.{Initiation, Commit, Abort, End, Checkpoint}
 use Rattle.fed_rules.specs.CoordRecords.{coord_frame}
 use Rattle.frame_journal.specs.Journal.{written_size}
-use Rattle.frame_journal.proofs.Entries.{new_size}
+use Rattle.frame_journal.proofs.ForCallers.{new_size}
 use Rattle.coord_journal.specs.PayloadSizes.{payload_has_size}
 use Rattle.coord_journal.specs.Spelling.{spelling}
 

@@ -9,7 +9,7 @@ use Rattle.fed_rules.specs.declared.sums.OpenAttempt.{OpenAttempt}
 use Rattle.fed_rules.specs.CoordRecords.{coord_payload, open_size, committed_size}
 use Rattle.record_fields.specs.Items.{joined}
 use Rattle.record_fields.specs.Sums.{an_open_attempt, a_committed_attempt, open_attempts, committed_attempts}
-use Rattle.record_fields.proofs.Sizes as sizes
+use Rattle.record_fields.proofs.ForCallers as sizes
 use Rattle.coord_journal.specs.Spelling.{checkpoint, spelling}
 
 pub open_sizes : (attempts : List OpenAttempt) → length (joined an_open_attempt.spelling attempts) ≡ open_size attempts

@@ -75,7 +75,7 @@ fn put_sum(out: &mut Vec<u8>, sum: &CoordSum)
 }
 
 /// Writes a record's payload behind the other bytes, for which there is room.
-#[tactic(auto, using(record_fields::proofs::Sizes::participants_size, record_fields::proofs::Sizes::tickets_size))]
+#[tactic(auto, using(record_fields::proofs::ForCallers::participants_size, record_fields::proofs::ForCallers::tickets_size))]
 pub fn put_record(entry: &CoordRecord, out: &mut Vec<u8>)
     requires in_range { InRange entry.now }
     requires payload { IsPayload (spelling entry.now) }

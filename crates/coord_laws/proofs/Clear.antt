@@ -16,17 +16,16 @@ use Rattle.fed_rules.specs.declared.records.CoordRecord.TheVariants as Rec
 use Rattle.fed_rules.specs.Coord.{missing}
 use Rattle.fed_rules.specs.CoordPast.{CoordHappening, CoordPast, records, Undecided, Decided, Gone, standing_of, standing, participants, program, visits, has_acked}
 use Rattle.fed_rules.specs.CoordRecords.{named, has_commit, has_end, outcome, required_of, required, is_nobody, is_kept}
-use Rattle.rules_laws.proofs.Disks.{appended}
-use Rattle.order_laws.proofs.Lists.{those_same}
+use Rattle.rules_laws.proofs.ForCallers.{appended}
+use Rattle.order_laws.proofs.ForCallers.{same_of, those_same}
 use Rattle.coord_laws.proofs.Facts.{is_undecided, kept_standing, IsOpen, IsEnding, WroteAll, Same, Starts, Decides, Forgets, Restarts}
 use Rattle.coord_laws.proofs.Lines.{Kept, Stood, Stopped, Through}
 use Rattle.coord_laws.proofs.RecordLists.{IsSilent, end_among, named_behind, named_some, ends_silent, decided_outcome, those_among, nobody_none, is_required}
 use Rattle.fed_rules.specs.Happenings.{quiet}
 use Rattle.coord_laws.proofs.Sound.{IsBegun, IsAcked, IsClear, CoordSound, kept_from, end_mark}
 use Rattle.coord_laws.proofs.Taken.{acked_taken}
-use Rattle.mdb_base.proofs.ListLaws.{those_all, each_all}
+use Rattle.mdb_base.proofs.ForCallers.{each_all, those_all}
 use Rattle.coord_laws.proofs.Turns.{Turn, same_program, same_outcome, turn_numbered, turn_undecided, turn_named, turn_marked, turn_decided, turn_voted, is_participant, uncommitted_of}
-use Rattle.order_laws.proofs.Alike.{same_of}
 use Rattle.fed_rules.specs.Usable.{IsEndOf}
 
 -- what is required of the site, where the records name the participants

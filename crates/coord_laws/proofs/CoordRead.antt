@@ -3,9 +3,8 @@ use Rattle.std.proofs.Common.{◌≡◌, ◌⊎◌, Bool, true, false, cond, not
 use Rattle.mdb_base.specs.declared.names.Tid.{Tid}
 use Rattle.mdb_base.specs.Names.{same_tid, tid_before}
 use Rattle.mdb_base.specs.Words.{Among, Each, first_where, inserted, map_some, or_else, some_of, those}
-use Rattle.mdb_base.proofs.ListLaws.{each_filtered, each_inserted, each_map}
-use Rattle.mdb_base.proofs.NameLaws.{same_tid-equal, same_tid-refl, before_other, apart_behind}
-use Rattle.order_laws.proofs.Names.{ranks_tids}
+use Rattle.mdb_base.proofs.ForCallers.{apart_behind, before_other, each_filtered, each_inserted, each_map, same_tid-equal, same_tid-refl}
+use Rattle.order_laws.proofs.ForCallers.{ranks_tids}
 use Rattle.presumptions.specs.declared.Participant.{Participant}
 use Rattle.fed_rules.specs.declared.records.CoordRecord.{CoordRecord}
 use Rattle.fed_rules.specs.declared.records.CoordRecord.TheVariants.{Initiation, Commit, Abort, End, Checkpoint}

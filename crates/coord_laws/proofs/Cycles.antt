@@ -4,8 +4,7 @@ use Rattle.mdb_base.specs.Words.{Each}
 use Rattle.order_laws.specs.Chains.{In, Acyclic, Within}
 use Rattle.order_laws.specs.Search.{Linked}
 use Rattle.order_laws.specs.Tickets.{Ticketed, edge_between}
-use Rattle.order_laws.proofs.Chains.{acyclic_map}
-use Rattle.order_laws.proofs.Search.{no_cycle}
+use Rattle.order_laws.proofs.ForCallers.{acyclic_map, no_cycle}
 use Rattle.fed_rules.specs.declared.records.CoordRecord.{CoordRecord}
 use Rattle.fed_rules.specs.declared.records.CoordRecord.TheVariants as Rec
 use Rattle.fed_rules.specs.CoordPast.{CoordPast, CoordHappening, disk, records}

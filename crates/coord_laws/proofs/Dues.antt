@@ -8,12 +8,9 @@ use Rattle.mdb_base.specs.declared.names.Tx.{Tx}
 use Rattle.mdb_base.specs.Names.{same_tid, same_site}
 use Rattle.mdb_base.specs.Programs.{plain_act}
 use Rattle.mdb_base.specs.Words.{Each, some_of, how_many, those, found, with_some}
-use Rattle.mdb_base.proofs.NameLaws.{same_tid-equal, same_tid-refl}
+use Rattle.mdb_base.proofs.ForCallers.{each_map, each_of_mapped, is_none-true, same_tid-equal, same_tid-refl, some_parts}
 use Rattle.order_laws.specs.Chains.{In}
-use Rattle.mdb_base.proofs.ListLaws.{each_map}
-use Rattle.mdb_base.proofs.OptionLaws.{some_parts, is_none-true}
-use Rattle.mdb_base.proofs.EachLaws.{each_of_mapped}
-use Rattle.order_laws.proofs.Lists.{each_from, each_at}
+use Rattle.order_laws.proofs.ForCallers.{each_at, each_from, of_same}
 use Rattle.presumptions.specs.declared.Participant.{Participant}
 use Rattle.presumptions.specs.Table.{presumed}
 use Rattle.fed_rules.specs.declared.answers.Answer.{Answer}
@@ -30,9 +27,8 @@ use Rattle.fed_rules.specs.Coord.{send_due, is_prepare, lacks_initiation, sends_
 use Rattle.fed_rules.specs.CoordPast.{CoordHappening, CoordPast, records, Standing, Undecided, Decided, Gone, standing, reads, participants, program, program_in, or_steps, visits, counted, did_in, last_epoch, epoch_at, count_at, has_ticket_at, is_wait, is_ticket, has_step_left, vote_at, outstanding, outstanding_at, work_at, take_at, prepare_at, next_step, attempts_of, undecided_of}
 use Rattle.fed_rules.specs.CoordRecords.{class_of, has_initiation, named, committed_of}
 use Rattle.coord_laws.proofs.Facts.{IsOpen, Stands, Same, Starts, IsPreparing, IsTelling, Known, Presumed, Tells, Counted, Goes}
-use Rattle.rules_laws.proofs.Sending.{IsSending}
+use Rattle.rules_laws.proofs.ForCallers.{IsSending}
 use Rattle.coord_laws.proofs.Rules.{goes_when, goes_given, IsCalm, Sending, sending_answer, calm_committed, standing_on, acked_on, IsNoAck, calm_standing, calm_acked, silently, no_ack}
-use Rattle.order_laws.proofs.Alike.{of_same}
 
 pub each_found : {A B : Type 0} (P : B → Type 0) (look : A → Option B) → ((x : A) (b : B) → look x ≡ Some b → P b) → (xs : List A)
     → Each P (found look xs)

@@ -4,9 +4,7 @@ use Rattle.mdb_base.specs.declared.names.SiteId.{SiteId}
 use Rattle.mdb_base.specs.declared.names.Tid.{Tid}
 use Rattle.mdb_base.specs.Names.{same_tid}
 use Rattle.mdb_base.specs.Words.{Each}
-use Rattle.mdb_base.proofs.ListLaws.{each_all}
-use Rattle.mdb_base.proofs.NameLaws.{same_tid-refl}
-use Rattle.mdb_base.proofs.EachLaws.{each_of_mapped}
+use Rattle.mdb_base.proofs.ForCallers.{each_all, each_of_mapped, same_tid-refl}
 use Rattle.presumptions.specs.declared.Decision.{Decision}
 use Rattle.presumptions.specs.declared.Decision.TheVariants as Decided
 use Rattle.presumptions.specs.declared.Participant.{Participant}
@@ -20,10 +18,10 @@ use Rattle.fed_rules.specs.Coord.{forgets_at_once, abort_records, forced, aborts
 use Rattle.fed_rules.specs.CoordPast.{CoordHappening, CoordPast, disk, records, Decided, Gone, standing, is_about, decides, acks_in, has_acked, participants, is_prepare_of, has_sent}
 use Rattle.fed_rules.specs.CoordRecords.{coord_frame, class_of, has_abort, required, is_nobody}
 use Rattle.coord_laws.specs.Records.{IsEnd}
-use Rattle.rules_laws.proofs.Disks.{appended, IsQuiet, quiet_plain, plain_records}
+use Rattle.rules_laws.proofs.ForCallers.{IsQuiet, appended, plain_records, quiet_plain}
 use Rattle.coord_laws.proofs.Facts.{moved, IsOpen, IsUnmarked, IsUncommitted, WroteAll, Stands, Same, Decides, IsTelling, Now, Tells, Counted, Goes}
 use Rattle.coord_laws.proofs.Rules.{standing_on, acked_on, IsNoAck}
-use Rattle.order_laws.proofs.Alike.{of_same}
+use Rattle.order_laws.proofs.ForCallers.{of_same}
 
 -- since a decision nothing is acknowledged
 pub acked_off : (g : Tid) (past : CoordPast) (x : CoordHappening) (site : SiteId) → is_about g x.event ≡ true → decides x.answer ≡ true

@@ -10,12 +10,9 @@ use Rattle.mdb_base.specs.declared.replies.Reply.TheVariants as Reply_is
 use Rattle.mdb_base.specs.declared.replies.Why.TheVariants as Because
 use Rattle.mdb_base.specs.Names.{same_site, same_tid}
 use Rattle.mdb_base.specs.Words.{Each, with_some}
-use Rattle.mdb_base.proofs.ListLaws.{each_all, each_filtered, those_pass}
-use Rattle.mdb_base.proofs.NameLaws.{same_tid-equal, same_tid-refl, tests_agree, same_site-refl, same_site-equal}
-use Rattle.mdb_base.proofs.EachLaws.{each_of_mapped}
-use Rattle.mdb_base.proofs.BoolLaws.{or_true}
+use Rattle.mdb_base.proofs.ForCallers.{each_all, each_filtered, each_of_mapped, or_true, same_site-equal, same_site-refl, same_tid-equal, same_tid-refl, tests_agree, those_pass}
 use Rattle.order_laws.specs.Chains.{In}
-use Rattle.order_laws.proofs.Lists.{is_among, in_those, those_same}
+use Rattle.order_laws.proofs.ForCallers.{in_those, is_among, of_same, those_same}
 use Rattle.order_laws.specs.Search.{cycle_through}
 use Rattle.order_laws.specs.Tickets.{edge_between}
 use Rattle.presumptions.specs.declared.Decision.TheVariants as Decided
@@ -32,13 +29,11 @@ use Rattle.fed_rules.specs.Coord.{is_take, may_take, held_back, let_through, def
 use Rattle.fed_rules.specs.CoordPast.{CoordHappening, CoordPast, records, is_open, participants, program, visits, outstanding, epoch_at, vote_at}
 use Rattle.fed_rules.specs.CoordRecords.{has_ticket, ticketed, required, is_nobody, commits}
 use Rattle.fed_rules.specs.Policies.{Policy}
-use Rattle.rules_laws.proofs.Disks.{appended}
+use Rattle.rules_laws.proofs.ForCallers.{appended, some_sending}
 use Rattle.coord_laws.proofs.Facts.{IsOpen, IsCommitting, Stands, Same, Decides, IsTelling, Now, Tells, Counted, Goes}
-use Rattle.rules_laws.proofs.Sending.{some_sending}
 use Rattle.coord_laws.proofs.Rules.{goes_when, goes_given, open_undecided, acked_on, silently, ignored}
 use Rattle.coord_laws.proofs.Dues.{IsOwed, news_owed, by_dues}
 use Rattle.coord_laws.proofs.Ends.{acked_off, decided_standing, other_standing, by_aborts}
-use Rattle.order_laws.proofs.Alike.{of_same}
 use Rattle.fed_rules.specs.Usable.{IsDeclaredAt}
 
 -- a ticket of these votes is of a site that the program visits

@@ -1,32 +1,33 @@
-pub mod Begins
-pub mod Begun
-pub mod Clear
-pub mod Cycles
-pub mod Dues
-pub mod Ends
-pub mod Facts
-pub mod LastVotes
-pub mod Lines
-pub mod Made
-pub mod MadeLines
-pub mod OneEach
-pub mod OpenedPasts
-pub mod Past
-pub mod RecordLists
-pub mod Refuted
-pub mod Restarts
-pub mod Rules
-pub mod Sound
-pub mod Standings
-pub mod Taken
-pub mod Turns
-pub mod Unsent
-pub mod CoordPasts
-pub mod CoordTold
-pub mod CoordRead
-pub mod CoordJournals
-pub mod CoordOpened
-pub mod CoordRestarts
-pub mod CoordCalls
-pub mod CoordTrims
-pub mod UsableCoordinators
+pub mod ForCallers
+mod Begins
+mod Begun
+mod Clear
+mod Cycles
+mod Dues
+mod Ends
+mod Facts
+mod LastVotes
+mod Lines
+mod Made
+mod MadeLines
+mod OneEach
+mod OpenedPasts
+mod Past
+mod RecordLists
+mod Refuted
+mod Restarts
+mod Rules
+mod Sound
+mod Standings
+mod Taken
+mod Turns
+mod Unsent
+mod CoordPasts
+mod CoordTold
+mod CoordRead
+mod CoordJournals
+mod CoordOpened
+mod CoordRestarts
+mod CoordCalls
+mod CoordTrims
+mod UsableCoordinators

@@ -3,7 +3,7 @@ use Rattle.std.proofs.Common.{◌≡◌, ℕ, ◌⊎◌, inl, inr, Bool, true, f
 use Rattle.mdb_base.specs.declared.names.SiteId.{SiteId}
 use Rattle.mdb_base.specs.declared.names.Tid.{Tid}
 use Rattle.mdb_base.specs.Words.{Each, Among, when}
-use Rattle.mdb_base.proofs.EachLaws.{among_append}
+use Rattle.mdb_base.proofs.ForCallers.{among_append}
 use Rattle.presumptions.specs.declared.Decision.TheVariants as Decided
 use Rattle.presumptions.specs.declared.Participant.{Participant}
 use Rattle.fed_rules.specs.declared.answers.Answer.{Answer}
@@ -19,7 +19,7 @@ use Rattle.fed_rules.specs.CoordRecords.{coord_frame}
 use Rattle.fed_rules.specs.Policies.{Policy}
 use Rattle.rules_laws.specs.Durable.{IsFirm}
 use Rattle.coord_laws.specs.Records.{IsCommit, IsEnd}
-use Rattle.rules_laws.proofs.Disks.{appended, IsCut, Keeps, left_by_line, left_by_stop, quiet_plain, plain_records}
+use Rattle.rules_laws.proofs.ForCallers.{IsCut, Keeps, appended, left_by_line, left_by_stop, plain_records, quiet_plain}
 use Rattle.coord_laws.proofs.Facts.{kept_standing, WroteAll, Stands, Tells, Counted, Committed, Goes}
 use Rattle.coord_laws.proofs.Rules.{silently, uncounted}
 use Rattle.coord_laws.proofs.Restarts.{by_answered, by_back}

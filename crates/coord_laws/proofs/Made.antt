@@ -73,9 +73,9 @@ is_refusal Reply_is.Unknown = true
 is_refusal reply = false
 
 -- a refusal that counts decides
-abbrev pub Decides : CoordEvent → Answer → Type 0
-Decides (Ev.Take site (From.Did tid epoch n reply)) answer = counts answer ≡ true → is_refusal reply ≡ true → decides answer ≡ true
-Decides event answer = Unit {0}
+abbrev pub DecidesOnRefusal : CoordEvent → Answer → Type 0
+DecidesOnRefusal (Ev.Take site (From.Did tid epoch n reply)) answer = counts answer ≡ true → is_refusal reply ≡ true → decides answer ≡ true
+DecidesOnRefusal event answer = Unit {0}
 
 -- an attempt is begun by its `go`
 abbrev pub Begins : CoordEvent → Answer → Type 0
@@ -94,7 +94,7 @@ pub record IsMade (protocols : List Participant) (past : CoordPast) (event : Coo
   pub writes : Each (Writes protocols past event) x.calls
   pub sends : Each (λ sent. IsAsked (x ∷ past) sent.site sent.message) x.sends
   pub counted : Counts past event x.answer
-  pub decided : Decides event x.answer
+  pub decided : DecidesOnRefusal event x.answer
   pub begun : Begins event x.answer
   pub first : IsFirst past x.answer
   pub commits_by : (decides x.answer || stops x.answer) ≡ false → Each CommitsNobody x.calls
@@ -119,7 +119,7 @@ plain_counts past (Ev.Trip calls cut) answer p = tt
 plain_counts past Ev.Back answer p = tt
 plain_counts past Ev.Check answer p = tt
 
-pub plain_decides : (event : CoordEvent) (answer : Answer) → IsPlain event → Decides event answer
+pub plain_decides : (event : CoordEvent) (answer : Answer) → IsPlain event → DecidesOnRefusal event answer
 plain_decides (Ev.Take site (From.Did tid epoch n reply)) answer p = absurd p
 plain_decides (Ev.Take site (From.Vote tid vote)) answer p = absurd p
 plain_decides (Ev.Take site (From.Ack tid)) answer p = tt
@@ -149,7 +149,7 @@ uncounted_counts past (Ev.Trip calls cut) answer e = tt
 uncounted_counts past Ev.Back answer e = tt
 uncounted_counts past Ev.Check answer e = tt
 
-pub uncounted_decides : (event : CoordEvent) (answer : Answer) → counts answer ≡ false → Decides event answer
+pub uncounted_decides : (event : CoordEvent) (answer : Answer) → counts answer ≡ false → DecidesOnRefusal event answer
 uncounted_decides (Ev.Take site (From.Did tid epoch n reply)) answer e = λ h r. cc
 uncounted_decides (Ev.Take site (From.Vote tid vote)) answer e = tt
 uncounted_decides (Ev.Take site (From.Ack tid)) answer e = tt

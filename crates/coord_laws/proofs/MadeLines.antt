@@ -1,6 +1,6 @@
 -- Each line of the coordinator is made so, by whichever rule it goes.
-use Rattle.mdb_base.proofs.OptionLaws.{some_parts}
-use Rattle.rules_laws.proofs.Sending.{all_sending, some_sending, IsSending}
+use Rattle.mdb_base.proofs.ForCallers.{each_filtered, each_of_found, some_parts}
+use Rattle.rules_laws.proofs.ForCallers.{IsSending, all_sending, some_sending}
 use Rattle.std.proofs.Common.{◌≡◌, ℕ, zero, suc, Bool, true, false, cond, not, ◌&&◌, ◌||◌, is_none, Option, Some, None, List, [], ◌∷◌, ◌++◌, take, map, refl, sym, ap, ◌∙◌}
 use Rattle.mdb_base.specs.declared.acts.Step.{Step}
 use Rattle.mdb_base.specs.declared.names.SiteId.{SiteId}
@@ -13,8 +13,6 @@ use Rattle.mdb_base.specs.declared.replies.Why.TheVariants as Because
 use Rattle.mdb_base.specs.Names.{same_site}
 use Rattle.mdb_base.specs.Programs.{plain_act}
 use Rattle.mdb_base.specs.Words.{Each, when}
-use Rattle.mdb_base.proofs.ListLaws.{each_filtered}
-use Rattle.mdb_base.proofs.EachLaws.{each_of_found}
 use Rattle.presumptions.specs.declared.Decision.{Decision}
 use Rattle.presumptions.specs.declared.Decision.TheVariants as Decide_is
 use Rattle.presumptions.specs.declared.Participant.{Participant}
@@ -38,8 +36,8 @@ use Rattle.fed_rules.specs.Policies.{Policy}
 use Rattle.fed_rules.specs.Disk.{Call, Append, Sync, CutBack, TrimFront, Stops, is_torn}
 use Rattle.fed_rules.specs.Happenings.{Trip, quiet, is_down, stopped, tripped}
 use Rattle.fed_rules.specs.Site_of.{due_site}
-use Rattle.coord_laws.proofs.Made.{CommitsNobody, IsAccepted, IsLastVote, Writes, IsAsked, Counts, is_refusal, Decides, Begins, IsFirst, IsMade, uncounted_counts, uncounted_decides, quiet_plain, quiet_uncounted, made_when, made_given}
-use Rattle.order_laws.proofs.Joined.{each_cut}
+use Rattle.coord_laws.proofs.Made.{CommitsNobody, IsAccepted, IsLastVote, Writes, IsAsked, Counts, is_refusal, DecidesOnRefusal, Begins, IsFirst, IsMade, uncounted_counts, uncounted_decides, quiet_plain, quiet_uncounted, made_when, made_given}
+use Rattle.order_laws.proofs.ForCallers.{each_cut}
 
 pub due_same : (d due : Due) → Some d ≡ Some due → due_site due ≡ due_site d
 due_same d due e = let p : d ≡ due = some_parts e in sym (ap due_site p)
@@ -107,13 +105,13 @@ decides_each past tid decision [] = tt
 decides_each past tid decision (member ∷ members) = (tt, decides_each past tid decision members)
 
 -- operations and Prepares are sent
-sent_made : (protocols : List Participant) (past : CoordPast) (event : CoordEvent) (tid : Tid) (answer : Answer) (dues : List Due) → IsSending answer → AreDue (quiet event Say.Only ∷ past) tid dues → ((answer : Answer) → decides answer ≡ false → Decides event answer) → ((answer : Answer) → Counts past event answer)
+sent_made : (protocols : List Participant) (past : CoordPast) (event : CoordEvent) (tid : Tid) (answer : Answer) (dues : List Due) → IsSending answer → AreDue (quiet event Say.Only ∷ past) tid dues → ((answer : Answer) → decides answer ≡ false → DecidesOnRefusal event answer) → ((answer : Answer) → Counts past event answer)
     → IsMade protocols past event (record { event = event; answer = answer; sends = map (send_due tid) dues; calls = []; lines = [] })
 sent_made protocols past event tid Say.Only dues s h d k = record { heard = refl; accepted = tt; writes = tt; sends = sends_due (quiet event Say.Only ∷ past) tid dues h; counted = k _; decided = d _ refl; begun = tt; first = tt; commits_by = λ e. tt }
 sent_made protocols past event tid Say.Defers dues s h d k = record { heard = refl; accepted = tt; writes = tt; sends = sends_due (quiet event Say.Only ∷ past) tid dues h; counted = k _; decided = d _ refl; begun = tt; first = tt; commits_by = λ e. tt }
 sent_made protocols past event tid answer dues s h d k = absurd s
 
-dues_made : (protocols : List Participant) (past : CoordPast) (event : CoordEvent) (tid : Tid) (answer : Answer) (dues : List Due) → IsSending answer → AreDue (quiet event Say.Only ∷ past) tid dues → ((answer : Answer) → decides answer ≡ false → Decides event answer) → ((answer : Answer) → Counts past event answer) → IsMade protocols past event (sends_dues protocols past event tid answer dues)
+dues_made : (protocols : List Participant) (past : CoordPast) (event : CoordEvent) (tid : Tid) (answer : Answer) (dues : List Due) → IsSending answer → AreDue (quiet event Say.Only ∷ past) tid dues → ((answer : Answer) → decides answer ≡ false → DecidesOnRefusal event answer) → ((answer : Answer) → Counts past event answer) → IsMade protocols past event (sends_dues protocols past event tid answer dues)
 unfolding sends_dues
 dues_made protocols past event tid answer dues s h d k =
     made_when protocols past event _ _ _
@@ -128,7 +126,7 @@ abort_shape P protocols past tid p q = by_test (has_abort (class_of (participant
     by_test true = q
     by_test false = p
 
-aborts_made : (protocols : List Participant) (past : CoordPast) (event : CoordEvent) (tid : Tid) (cause : Cause) → ((answer : Answer) → decides answer ≡ true → Decides event answer) → ((answer : Answer) → Counts past event answer) → IsMade protocols past event (aborts protocols past event tid cause)
+aborts_made : (protocols : List Participant) (past : CoordPast) (event : CoordEvent) (tid : Tid) (cause : Cause) → ((answer : Answer) → decides answer ≡ true → DecidesOnRefusal event answer) → ((answer : Answer) → Counts past event answer) → IsMade protocols past event (aborts protocols past event tid cause)
 unfolding aborts
 aborts_made protocols past event tid cause d k =
     record {
@@ -143,7 +141,7 @@ aborts_made protocols past event tid cause d k =
       commits_by = λ e. cc;
     }
 
-commits_made : (protocols : List Participant) (past : CoordPast) (event : CoordEvent) (tid : Tid) (tickets : List SiteTicket) → cycle_through edge_between (record { tid = tid; tickets = tickets }) (commits (records past)) ≡ None → IsLastVote protocols past event tid tickets → ((answer : Answer) → decides answer ≡ true → Decides event answer) → ((answer : Answer) → Counts past event answer) → IsMade protocols past event (commits_it protocols past event tid tickets)
+commits_made : (protocols : List Participant) (past : CoordPast) (event : CoordEvent) (tid : Tid) (tickets : List SiteTicket) → cycle_through edge_between (record { tid = tid; tickets = tickets }) (commits (records past)) ≡ None → IsLastVote protocols past event tid tickets → ((answer : Answer) → decides answer ≡ true → DecidesOnRefusal event answer) → ((answer : Answer) → Counts past event answer) → IsMade protocols past event (commits_it protocols past event tid tickets)
 unfolding commits_it
 commits_made protocols past event tid tickets none last d k =
     record {

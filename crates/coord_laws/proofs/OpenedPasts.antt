@@ -8,7 +8,7 @@ use Rattle.mdb_base.specs.declared.names.Tid.{Tid}
 use Rattle.mdb_base.specs.declared.names.Tx.{Tx}
 use Rattle.mdb_base.specs.Names.{same_tid, same_tx}
 use Rattle.mdb_base.specs.Words.{Among, how_many, or_else, some_of, those, with_some}
-use Rattle.mdb_base.proofs.NameLaws.{same_tid-equal, same_tid-refl}
+use Rattle.mdb_base.proofs.ForCallers.{same_tid-equal, same_tid-refl}
 use Rattle.order_laws.specs.Chains.{In}
 use Rattle.presumptions.specs.declared.Decision.{Decision}
 use Rattle.presumptions.specs.declared.Participant.{Participant}
@@ -25,7 +25,7 @@ use Rattle.fed_rules.specs.Disk.{Append, Sync, after_calls, empty_disk}
 use Rattle.fed_rules.specs.Found.{Journal}
 use Rattle.fed_rules.specs.Reopened.{all_gone, all_heard, coord_opening, coord_read, coord_reads_as, go_on, goes, heard_of, long_coord, opened_coordinator, rewritten, visit}
 use Rattle.rules_laws.specs.Durable.{IsFirm, IsSound}
-use Rattle.rules_laws.proofs.Durable.{firm_stop, sound_calls}
+use Rattle.rules_laws.proofs.ForCallers.{calls_split, firm_stop, sound_calls}
 use Rattle.order_laws.specs.Tickets.{HasNoCycle, OneEach}
 use Rattle.fed_rules.specs.Usable.{IsEndOf}
 use Rattle.coord_laws.specs.Pasts.{IsOpened, NameDeclared}
@@ -33,7 +33,6 @@ use Rattle.coord_laws.specs.Records.{IsCommit, IsEnd}
 use Rattle.coord_laws.proofs.Begun.{AreNumbered, below_listed, begun_in, more_attempts, numbered_below, one_attempt}
 use Rattle.coord_laws.proofs.Facts.{IsOpen, is_undecided}
 use Rattle.coord_laws.proofs.Sound.{CoordSound, Declared, IsAcked, IsBegun, IsClear, IsMark, IsYes}
-use Rattle.rules_laws.proofs.OpenedDisks.{calls_split}
 
 -- ---- who is recorded
 

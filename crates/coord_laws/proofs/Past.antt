@@ -3,11 +3,9 @@ use Rattle.std.proofs.Common.{◌≡◌, ◌⊎◌, Bool, true, false, cond, is_
 use Rattle.std.proofs.lemmas.Bool.{and_parts}
 use Rattle.mdb_base.specs.declared.names.Tid.{Tid}
 use Rattle.mdb_base.specs.Words.{Among, with_some, or_else}
-use Rattle.mdb_base.proofs.ListLaws.{each_self, each_filtered}
+use Rattle.mdb_base.proofs.ForCallers.{each_filtered, each_self}
 use Rattle.order_laws.specs.Chains.{In, Distinct}
-use Rattle.order_laws.proofs.Alike.{same_of}
-use Rattle.order_laws.proofs.Lists.{bool_is, each_from}
-use Rattle.order_laws.proofs.Tickets.{acyclic_no_cycle, no_cycle_acyclic}
+use Rattle.order_laws.proofs.ForCallers.{acyclic_no_cycle, bool_is, each_from, no_cycle_acyclic, same_of}
 use Rattle.presumptions.specs.declared.Participant.{Participant}
 use Rattle.presumptions.specs.declared.Protocol.TheVariants as By
 use Rattle.fed_rules.specs.declared.events.CoordEvent.{CoordEvent}
@@ -16,7 +14,7 @@ use Rattle.fed_rules.specs.declared.records.CoordRecord.TheVariants as Rec
 use Rattle.fed_rules.specs.CoordPast.{CoordHappening, CoordPast, disk, records, Standing, Undecided, Decided, Gone, standing, is_known, is_open, begun_by, begun_tids, program, visits}
 use Rattle.fed_rules.specs.CoordRecords.{named, has_end, commits, recorded}
 use Rattle.fed_rules.specs.Policies.{Policy}
-use Rattle.rules_laws.proofs.EachAttempt.{with_in, with_distinct}
+use Rattle.rules_laws.proofs.ForCallers.{with_distinct, with_in}
 use Rattle.coord_laws.specs.Laws.{BeginOnce, BeginInOrder, KnownAreBegun, UndecidedAreUnmarked, DecisionsAreOutcomes, DecidedAreAwaited, RecordsNameParticipants, RecordedAreBegun, ParticipantsAreDeclared, CommitOnce, CommitsCloseNoCycle}
 use Rattle.coord_laws.specs.Pasts.{IsGoingOn, IsMadeByEvents, IsNextLine, OfPasts}
 use Rattle.coord_laws.proofs.OpenedPasts.{is_cycle_free, is_numbered, is_once, is_sound}

@@ -4,7 +4,7 @@ use Rattle.mdb_base.specs.declared.names.SiteId.{SiteId}
 use Rattle.mdb_base.specs.declared.names.Tid.{Tid}
 use Rattle.mdb_base.specs.Names.{same_tid}
 use Rattle.mdb_base.specs.Words.{Each, Among, those, or_else}
-use Rattle.mdb_base.proofs.NameLaws.{same_tid-equal}
+use Rattle.mdb_base.proofs.ForCallers.{same_tid-equal}
 use Rattle.presumptions.specs.declared.Decision.{Decision}
 use Rattle.presumptions.specs.declared.Decision.TheVariants as Decided
 use Rattle.presumptions.specs.declared.Participant.{Participant}
@@ -15,7 +15,7 @@ use Rattle.fed_rules.specs.declared.records.CoordRecord.TheVariants as Rec
 use Rattle.fed_rules.specs.CoordRecords.{ticketed, named, has_commit, has_end, outcome, required_of, required, is_nobody}
 use Rattle.coord_laws.specs.Records.{IsCommit, IsEnd}
 use Rattle.coord_laws.proofs.Facts.{IsUncommitted, IsDecidedBy}
-use Rattle.order_laws.proofs.Alike.{same_of}
+use Rattle.order_laws.proofs.ForCallers.{same_of}
 use Rattle.fed_rules.specs.Usable.{IsEndOf}
 use Rattle.fed_rules.specs.declared.records.CoordRecord.TheVariants.{Initiation, Commit, Abort, End, Checkpoint}
 

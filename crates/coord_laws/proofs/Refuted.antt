@@ -11,7 +11,7 @@ use Rattle.fed_rules.specs.declared.events.CoordEvent.TheVariants as Ev
 use Rattle.fed_rules.specs.Coord.{coord_past}
 use Rattle.fed_rules.specs.CoordPast.{begun_tids}
 use Rattle.fed_rules.specs.Policies.{always}
-use Rattle.fed_rules.proofs.Opened.{opened}
+use Rattle.fed_rules.proofs.ForCallers.{opened}
 use Rattle.coord_laws.specs.WrongPasts.{BeginsTwice}
 
 abbrev first : Tid

@@ -5,7 +5,7 @@ use Rattle.mdb_base.specs.declared.names.SiteId.{SiteId}
 use Rattle.mdb_base.specs.declared.names.Tid.{Tid}
 use Rattle.mdb_base.specs.Names.{same_tid, same_site}
 use Rattle.mdb_base.specs.Words.{those}
-use Rattle.mdb_base.proofs.ListLaws.{each_map, each_all, each_filtered}
+use Rattle.mdb_base.proofs.ForCallers.{each_all, each_filtered, each_map, each_of_mapped}
 use Rattle.presumptions.specs.declared.Decision.{Decision}
 use Rattle.presumptions.specs.declared.Participant.{Participant}
 use Rattle.fed_rules.specs.declared.answers.Answer.TheVariants as Say
@@ -24,16 +24,14 @@ use Rattle.fed_rules.specs.CoordPast.{CoordHappening, CoordPast, disk, records, 
 use Rattle.fed_rules.specs.CoordRecords.{coord_frame, named, required_of, is_nobody, coord_payload}
 use Rattle.fed_rules.specs.Policies.{Policy}
 use Rattle.coord_laws.specs.Records.{IsEnd}
-use Rattle.rules_laws.proofs.Disks.{appended, IsQuiet}
+use Rattle.rules_laws.proofs.ForCallers.{IsQuiet, all_sending, appended}
 use Rattle.coord_laws.proofs.Facts.{is_undecided, IsEnding, WroteAll, Stands, Same, Forgets, Restarts, IsTelling, Known, Tells, Goes}
-use Rattle.rules_laws.proofs.Sending.{all_sending}
 use Rattle.coord_laws.proofs.Rules.{goes_when, open_undecided, standing_on, acked_on, calm_standing, calm_acked, silently, ignored, no_ack}
 use Rattle.coord_laws.proofs.Dues.{IsOwed, all_owed, by_go, by_dues, by_inquiry, by_fate}
 use Rattle.coord_laws.proofs.Ends.{by_aborts}
 use Rattle.coord_laws.proofs.LastVotes.{at_vote, by_did}
-use Rattle.order_laws.proofs.Alike.{of_same}
+use Rattle.order_laws.proofs.ForCallers.{of_same}
 use Rattle.std.specs.Prelude.{nat_lt}
-use Rattle.mdb_base.proofs.EachLaws.{each_of_mapped}
 
 -- where an acknowledgement is missing the attempt has a record
 missing_recorded : (protocols : List Participant) (past : CoordPast) (t : Tid) (decision : Decision) (site : SiteId)

@@ -5,8 +5,7 @@ use Rattle.mdb_base.specs.declared.names.SiteId.{SiteId}
 use Rattle.mdb_base.specs.declared.names.Tid.{Tid}
 use Rattle.mdb_base.specs.Names.{same_tid}
 use Rattle.mdb_base.specs.Words.{Among, or_else}
-use Rattle.mdb_base.proofs.EachLaws.{among_behind, among_split}
-use Rattle.mdb_base.proofs.OptionLaws.{some_parts}
+use Rattle.mdb_base.proofs.ForCallers.{among_behind, among_split, some_parts}
 use Rattle.presumptions.specs.declared.Decision.{Decision}
 use Rattle.presumptions.specs.declared.Participant.{Participant}
 use Rattle.presumptions.specs.Table.{acks}
@@ -20,11 +19,11 @@ use Rattle.fed_rules.specs.CoordPast.{CoordHappening, CoordPast, disk, records, 
 use Rattle.fed_rules.specs.CoordRecords.{coord_frame, ticketed, named, outcome, is_nobody, is_kept}
 use Rattle.rules_laws.specs.Durable.{IsFirm}
 use Rattle.coord_laws.specs.Records.{IsCommit, IsEnd}
-use Rattle.rules_laws.proofs.Disks.{cut_stays, cut_old}
+use Rattle.rules_laws.proofs.ForCallers.{cut_old, cut_stays}
 use Rattle.coord_laws.proofs.Facts.{is_undecided, kept_standing, IsOpen, IsCommitting, WroteAll, Same, Starts, Decides, Forgets, Restarts}
 use Rattle.coord_laws.proofs.Lines.{Kept, Stood, Stopped, Through}
 use Rattle.coord_laws.proofs.RecordLists.{named_behind, named_more, ends_silent}
-use Rattle.order_laws.proofs.Alike.{same_of}
+use Rattle.order_laws.proofs.ForCallers.{same_of}
 use Rattle.fed_rules.specs.Usable.{IsEndOf}
 
 -- the attempt was begun

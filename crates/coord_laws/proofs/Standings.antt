@@ -4,7 +4,7 @@ use Rattle.mdb_base.specs.declared.names.SiteTicket.{SiteTicket}
 use Rattle.mdb_base.specs.declared.names.Tid.{Tid}
 use Rattle.mdb_base.specs.Words.{Each, Among}
 use Rattle.mdb_base.specs.Names.{same_tid}
-use Rattle.mdb_base.proofs.NameLaws.{same_tid-equal}
+use Rattle.mdb_base.proofs.ForCallers.{same_tid-equal}
 use Rattle.presumptions.specs.declared.Participant.{Participant}
 use Rattle.fed_rules.specs.declared.events.CoordEvent.{CoordEvent}
 use Rattle.fed_rules.specs.declared.answers.Answer.{Answer}

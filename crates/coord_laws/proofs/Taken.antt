@@ -6,7 +6,7 @@ use Rattle.mdb_base.specs.declared.names.Tid.{Tid}
 use Rattle.mdb_base.specs.declared.replies.Reply.{Reply}
 use Rattle.mdb_base.specs.Names.{same_tid, same_site}
 use Rattle.mdb_base.specs.Words.{Among, each_of, some_of, those, with_some}
-use Rattle.mdb_base.proofs.NameLaws.{same_tid-equal, same_site-equal}
+use Rattle.mdb_base.proofs.ForCallers.{same_site-equal, same_tid-equal}
 use Rattle.presumptions.specs.declared.Participant.{Participant}
 use Rattle.fed_rules.specs.declared.events.CoordEvent.{CoordEvent}
 use Rattle.fed_rules.specs.declared.events.CoordEvent.TheVariants as Ev

@@ -3,8 +3,7 @@ use Rattle.std.proofs.Common.{◌≡◌, ◌<◌, inl, inr, Bool, true, false, c
 use Rattle.std.proofs.lemmas.Bool.{and_parts, not-true}
 use Rattle.mdb_base.specs.declared.names.Tid.{Tid}
 use Rattle.mdb_base.specs.Words.{Among}
-use Rattle.mdb_base.proofs.NameLaws.{tests_agree}
-use Rattle.mdb_base.proofs.EachLaws.{among_split}
+use Rattle.mdb_base.proofs.ForCallers.{among_split, tests_agree}
 use Rattle.presumptions.specs.declared.Decision.{Decision}
 use Rattle.presumptions.specs.declared.Decision.TheVariants as Decided
 use Rattle.presumptions.specs.declared.Participant.{Participant}
@@ -16,8 +15,8 @@ use Rattle.fed_rules.specs.CoordPast.{CoordHappening, CoordPast, records, Undeci
 use Rattle.fed_rules.specs.CoordRecords.{named, has_commit, has_end, outcome, required, is_nobody, is_kept}
 use Rattle.coord_laws.specs.Pasts.{IsNumbered}
 use Rattle.coord_laws.specs.Records.{IsCommit}
-use Rattle.rules_laws.proofs.Disks.{appended}
-use Rattle.order_laws.proofs.Joined.{each_not}
+use Rattle.rules_laws.proofs.ForCallers.{appended}
+use Rattle.order_laws.proofs.ForCallers.{each_not, same_of}
 use Rattle.coord_laws.proofs.Begun.{begun_number, more_attempts}
 use Rattle.coord_laws.proofs.Facts.{is_undecided, IsOpen, IsUnmarked, IsCommitting, WroteAll, Same, Starts, Decides, Forgets, Restarts}
 use Rattle.coord_laws.proofs.Lines.{Kept, Stood, Stopped, Through, Line}
@@ -25,7 +24,6 @@ use Rattle.coord_laws.proofs.RecordLists.{commit_among, among_commit, named_behi
 use Rattle.fed_rules.specs.Happenings.{quiet}
 use Rattle.coord_laws.proofs.Sound.{Declared, IsBegun, IsYes, IsMark, CoordSound, kept_from, kept_stays, end_commit, commit_mark, written_commit, written_named, kept_not_open, decided_not_open, still_open, begins_go, program_stays}
 use Rattle.coord_laws.proofs.Taken.{vote_taken, each_of_at}
-use Rattle.order_laws.proofs.Alike.{same_of}
 
 -- the next line of a coordinator of which the invariant holds
 pub record Turn (protocols : List Participant) (member : Participant) (g : Tid) (past : CoordPast) (event : CoordEvent)

@@ -5,7 +5,7 @@ use Rattle.mdb_base.specs.declared.names.SiteId.{SiteId}
 use Rattle.mdb_base.specs.declared.names.Tid.{Tid}
 use Rattle.mdb_base.specs.Names.{same_tid}
 use Rattle.mdb_base.specs.Words.{Each, some_of, with_some}
-use Rattle.mdb_base.proofs.NameLaws.{same_tid-equal}
+use Rattle.mdb_base.proofs.ForCallers.{same_tid-equal}
 use Rattle.order_laws.specs.Chains.{In}
 use Rattle.fed_rules.specs.declared.messages.Due.{Due}
 use Rattle.fed_rules.specs.declared.messages.Due.TheVariants as Due_is

@@ -4,8 +4,7 @@ use Rattle.mdb_base.specs.declared.names.SiteId.{SiteId}
 use Rattle.mdb_base.specs.declared.names.Tid.{Tid}
 use Rattle.mdb_base.specs.Names.{same_site, same_tid}
 use Rattle.mdb_base.specs.Words.{Among, Each, or_else, some_of, those}
-use Rattle.mdb_base.proofs.ListLaws.{each_among, each_filtered, each_map, each_self}
-use Rattle.mdb_base.proofs.NameLaws.{same_site-refl, same_site-below, same_site-above}
+use Rattle.mdb_base.proofs.ForCallers.{each_among, each_filtered, each_map, each_self, same_site-above, same_site-below, same_site-refl}
 use Rattle.order_laws.specs.Chains.{In}
 use Rattle.order_laws.specs.Tickets.{HasNoCycle, OneEach, Ticketed}
 use Rattle.presumptions.specs.declared.Participant.{Participant}

@@ -5,7 +5,7 @@ use Rattle.mdb_base.specs.declared.names.Tid.{Tid}
 use Rattle.mdb_base.specs.declared.names.Tx.{Tx}
 use Rattle.mdb_base.specs.Names.{same_tid}
 use Rattle.mdb_base.specs.Words.{map_some, or_else}
-use Rattle.mdb_base.proofs.NameLaws.{same_tid-refl}
+use Rattle.mdb_base.proofs.ForCallers.{same_tid-refl}
 use Rattle.presumptions.specs.declared.Decision.TheVariants as Decided
 use Rattle.presumptions.specs.declared.Participant.{Participant}
 use Rattle.fed_rules.specs.declared.answers.Answer.TheVariants as Say
@@ -16,7 +16,7 @@ use Rattle.fed_rules.specs.declared.records.CoordRecord.TheVariants as Rec
 use Rattle.fed_rules.specs.Coord.{abort_records, aborts, decide_to, forced, forgets_at_once}
 use Rattle.fed_rules.specs.CoordRecords.{class_of, committed_of, commits, has_abort, named}
 use Rattle.fed_rules.specs.CoordPast.{CoordHappening, CoordPast, has_sent, is_open, is_prepare_of, participants, records}
-use Rattle.coord_laws.proofs.Past.{records_name}
+use Rattle.coord_laws.proofs.ForCallers.{records_name}
 use Rattle.journal_disk.specs.Frames.{IsPayload}
 use Rattle.coord_journal.specs.PayloadSizes.{payload_has_size}
 use Rattle.coord_journal.specs.Spelling.{InRange, spelling}

@@ -5,9 +5,8 @@ use Rattle.mdb_base.specs.declared.names.SiteId.{SiteId}
 use Rattle.mdb_base.specs.declared.names.Tid.{Tid}
 use Rattle.mdb_base.specs.Names.{same_tid}
 use Rattle.mdb_base.specs.Words.{holds_of, map_some, or_else, some_of, when}
-use Rattle.mdb_base.proofs.NameLaws.{same_tid-equal, same_tid-refl}
-use Rattle.mdb_base.proofs.BoolLaws.{cond_same}
-use Rattle.order_laws.proofs.Members.{in_each}
+use Rattle.mdb_base.proofs.ForCallers.{cond_same, same_tid-equal, same_tid-refl}
+use Rattle.order_laws.proofs.ForCallers.{in_each}
 use Rattle.presumptions.specs.declared.Decision.{Decision}
 use Rattle.presumptions.specs.declared.Participant.{Participant}
 use Rattle.presumptions.specs.declared.Protocol.TheVariants as By
@@ -22,7 +21,7 @@ use Rattle.fed_rules.specs.Coord.{ack_counts, acked_while, answered, is_member, 
 use Rattle.fed_rules.specs.CoordRecords.{is_nobody}
 use Rattle.fed_rules.specs.CoordPast.{CoordHappening, CoordPast, Standing, Undecided, Decided, Gone, begun_by, begun_tids, is_known, is_open, known_decision, standing, standing_of}
 use Rattle.fed_rules.specs.Right.{MayPrint}
-use Rattle.coord_laws.proofs.Past.{known_begun}
+use Rattle.coord_laws.proofs.ForCallers.{known_begun}
 use Rattle.journal_disk.specs.Frames.{IsPayload}
 use Rattle.coord_journal.specs.PayloadSizes.{payload_has_size}
 use Rattle.coord_journal.specs.Spelling.{spelling}
@@ -34,9 +33,7 @@ use Rattle.protocol_table.specs.declared.known.Known.{Known}
 use Rattle.protocol_table.specs.Agreement.{IsDecidedAs, IsKnownAs}
 use Rattle.protocol_table.specs.Attempts.{changed, known_of, without}
 use Rattle.protocol_table.specs.Ends as ends
-use Rattle.protocol_table.proofs.Agreeing.{acks_agree}
-use Rattle.protocol_table.proofs.Going.{acks_go}
-use Rattle.protocol_table.proofs.Keeps.{ack_keeps}
+use Rattle.protocol_table.proofs.ForCallers.{ack_keeps, acks_agree, acks_go}
 use Rattle.coord_tables.specs.declared.tables.Tables.{Tables}
 use Rattle.coord_tables.specs.Attempts.{IsLiveAs}
 use Rattle.coord_tables.specs.Tables.{IsServing}

@@ -3,7 +3,7 @@ use Rattle.std.proofs.Common.{◌≡◌, ℕ, ◌==◌, Bool, true, false, cond,
 use Rattle.mdb_base.specs.declared.names.Tid.{Tid}
 use Rattle.mdb_base.specs.Rising.{IsRising}
 use Rattle.mdb_base.specs.Words.{map_some, or_else, some_of, those}
-use Rattle.mdb_base.proofs.BoolLaws.{and_false, and_true}
+use Rattle.mdb_base.proofs.ForCallers.{and_false, and_true, those_rise}
 use Rattle.presumptions.specs.declared.Decision.{Decision}
 use Rattle.presumptions.specs.declared.Participant.{Participant}
 use Rattle.presumptions.specs.declared.Protocol.{Protocol}
@@ -16,16 +16,15 @@ use Rattle.fed_rules.specs.Happenings.{quiet}
 use Rattle.fed_rules.specs.Coord.{again_while, all_outstanding, answered, decide_to, defers_all, defers_some, held_back, let_through, may_take, missing, of_again, sends_all, sends_dues}
 use Rattle.fed_rules.specs.CoordRecords.{acking, named, required_of}
 use Rattle.fed_rules.specs.CoordPast.{CoordHappening, CoordPast, Standing, Undecided, Decided, Gone, begins, did_in, has_acked, is_open, is_prepare_of, is_take_of, known_decision, records, standing, standing_of, vote_in}
-use Rattle.coord_laws.proofs.Past.{records_name}
+use Rattle.coord_laws.proofs.ForCallers.{records_name}
 use Rattle.global_exec.specs.Live.{Live, all_due, live_of}
-use Rattle.global_exec.proofs.Agrees.{all_due-outstanding}
-use Rattle.global_exec.proofs.ExecPasts.{elsewhere_same, same_of_past}
+use Rattle.global_exec.proofs.ForCallers.{all_due-outstanding, elsewhere_same, same_of_past}
 use Rattle.protocol_table.specs.declared.ends.Said.TheVariants as Said_is
 use Rattle.protocol_table.specs.declared.known.Known.{Known}
 use Rattle.protocol_table.specs.Agreement.{IsDecidedAs, IsKnownAs, told}
 use Rattle.protocol_table.specs.Attempts.{known_of, participant_of}
 use Rattle.protocol_table.specs.Attempts as table
-use Rattle.protocol_table.proofs.Agreeing.{acks_agree}
+use Rattle.protocol_table.proofs.ForCallers.{acks_agree}
 use Rattle.coord_tables.specs.declared.tables.Tables.{Tables}
 use Rattle.coord_tables.specs.Attempts.{IsLiveAs}
 use Rattle.coord_tables.specs.Sending.{IsSending, is_held, passed, says_sent}
@@ -34,7 +33,6 @@ use Rattle.coord_tables.specs.Terms.{Terms, IsSound, answer_of}
 use Rattle.coord_tables.proofs.Calm.{calm_answer, calm_taking}
 use Rattle.coord_tables.proofs.Initiations.{participants_rise}
 use Rattle.coord_tables.proofs.Lines.{IsCalm}
-use Rattle.mdb_base.proofs.RisingLaws.{those_rise}
 
 -- how an attempt stands, by what an inquiry would be answered
 pub stands_undecided : (p : Protocol) (s : Standing) → told p s ≡ Said_is.Undecided → s ≡ Undecided

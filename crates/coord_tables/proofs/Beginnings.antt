@@ -8,12 +8,9 @@ use Rattle.mdb_base.specs.declared.names.Tid.{Tid}
 use Rattle.mdb_base.specs.declared.names.Tx.{Tx}
 use Rattle.mdb_base.specs.Names.{same_site, same_tid, same_tx}
 use Rattle.mdb_base.specs.Words.{Each, first_where, found, given, how_many, some_of, those}
-use Rattle.mdb_base.proofs.ListLaws.{append_each}
-use Rattle.mdb_base.proofs.NameLaws.{same_tid-equal, same_tid-refl, same_tid-sym, same_tx-equal}
-use Rattle.mdb_base.proofs.JoinLaws.{reverse_more}
+use Rattle.mdb_base.proofs.ForCallers.{append_each, reverse_more, same_tid-equal, same_tid-refl, same_tid-sym, same_tx-equal}
 use Rattle.order_laws.specs.Chains.{In}
-use Rattle.order_laws.proofs.Lists.{each_from, those_in}
-use Rattle.order_laws.proofs.Reversed.{in_reverse}
+use Rattle.order_laws.proofs.ForCallers.{each_from, in_reverse, those_in}
 use Rattle.std.proofs.lemmas.List.{map_push}
 use Rattle.presumptions.specs.declared.Decision.{Decision}
 use Rattle.presumptions.specs.declared.Participant.{Participant}
@@ -25,9 +22,7 @@ use Rattle.fed_rules.specs.Happenings.{quiet}
 use Rattle.fed_rules.specs.Coord.{all_outstanding, answered, is_prepare, is_take, of_go, send_due}
 use Rattle.fed_rules.specs.CoordRecords.{commits, committed_of, named}
 use Rattle.fed_rules.specs.CoordPast.{CoordHappening, CoordPast, begins, Counted, Standing, Undecided, Gone, attempts_of, begun_tids, counted, is_known, is_open, is_ticket, is_wait, known_decision, last_epoch, oldest_first, or_steps, participants_of, program, records, standing, standing_of, undecided_of, value_in, vote_at}
-use Rattle.coord_laws.proofs.Begun.{begun_in}
-use Rattle.coord_laws.proofs.Past.{any_member, begin_in_order, known_begun, past_sound}
-use Rattle.coord_laws.proofs.Unsent.{unbegun_unsent}
+use Rattle.coord_laws.proofs.ForCallers.{any_member, begin_in_order, begun_in, known_begun, past_sound, unbegun_unsent}
 use Rattle.global_exec.specs.declared.policy.SiteSet.{SiteSet}
 use Rattle.global_exec.specs.declared.progress.Progress.{Progress}
 use Rattle.global_exec.specs.Agreement.{IsOfPast, progress_in}
@@ -40,7 +35,7 @@ use Rattle.protocol_table.specs.declared.known.Known.{Known}
 use Rattle.protocol_table.specs.Agreement.{IsKnownAs, IsUndecidedAs}
 use Rattle.protocol_table.specs.Attempts as table
 use Rattle.protocol_table.specs.Attempts.{known_of}
-use Rattle.protocol_table.proofs.Going.{begins_go}
+use Rattle.protocol_table.proofs.ForCallers.{begins_go}
 use Rattle.ticket_graph.specs.Graph.{AreHeld, StandsFor}
 use Rattle.coord_tables.specs.declared.stages.Stage.{Stage}
 use Rattle.coord_tables.specs.declared.tables.Tables.{Tables}

@@ -14,7 +14,7 @@ use Rattle.fed_rules.specs.declared.messages.FromSite.TheVariants as From
 use Rattle.fed_rules.specs.Happenings.{comes_up, quiet, stops}
 use Rattle.fed_rules.specs.CoordPast.{CoordHappening, CoordPast, acks_in, begins, begun_by, counts, decided, decides, did_in, is_prepare_of, is_take_of, opened, vote_in}
 use Rattle.fed_rules.specs.Right.{IsRefusal, SameButCycle}
-use Rattle.global_exec.proofs.ExecPasts.{elsewhere_same, uncounted_same}
+use Rattle.global_exec.proofs.ForCallers.{elsewhere_same, uncounted_same}
 use Rattle.coord_tables.proofs.Lines.{IsCalm}
 
 -- an answer that changes nothing

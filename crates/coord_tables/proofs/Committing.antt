@@ -9,18 +9,16 @@ use Rattle.mdb_base.specs.declared.replies.Edge.{Edge}
 use Rattle.mdb_base.specs.Names.{same_tx}
 use Rattle.mdb_base.specs.Rising.{IsRising}
 use Rattle.mdb_base.specs.Words.{Each, found, given, map_some, or_else, with_some}
-use Rattle.mdb_base.proofs.ListLaws.{each_filtered}
-use Rattle.mdb_base.proofs.NameLaws.{same_tid-refl}
-use Rattle.mdb_base.proofs.OptionLaws.{some_parts}
+use Rattle.mdb_base.proofs.ForCallers.{each_filtered, same_tid-refl, some_parts}
 use Rattle.order_laws.specs.Chains.{In}
 use Rattle.order_laws.specs.Search.{cycle_through}
 use Rattle.order_laws.specs.Tickets.{IsCycle, OneEach, Ticketed, edge_between}
-use Rattle.order_laws.proofs.Tickets.{cycle_none}
+use Rattle.order_laws.proofs.ForCallers.{cycle_none}
 use Rattle.presumptions.specs.declared.Decision.{Decision}
 use Rattle.presumptions.specs.declared.Decision.TheVariants as Decided
 use Rattle.presumptions.specs.declared.Participant.{Participant}
 use Rattle.record_fields.specs.Named.{IsSite}
-use Rattle.record_fields.proofs.Sizes.{few_sites}
+use Rattle.record_fields.proofs.ForCallers.{few_sites}
 use Rattle.fed_rules.specs.declared.answers.Answer.{Answer}
 use Rattle.fed_rules.specs.declared.answers.Answer.TheVariants as Say
 use Rattle.fed_rules.specs.declared.answers.Cause.TheVariants as For
@@ -31,9 +29,7 @@ use Rattle.fed_rules.specs.Coord.{aborts, all_voted, commits_it, decide_to, forg
 use Rattle.fed_rules.specs.CoordRecords.{commits, named, ticketed}
 use Rattle.fed_rules.specs.CoordPast.{CoordHappening, CoordPast, Undecided, begins, counts, is_open, known_decision, or_steps, or_vote, participants, participants_of, program, program_in, records, standing, standing_of, visits, vote_at, vote_in}
 use Rattle.fed_rules.specs.Right.{IsRefusal, SameButCycle}
-use Rattle.coord_laws.proofs.LastVotes.{tickets_name}
-use Rattle.coord_laws.proofs.OneEach.{committed_tid}
-use Rattle.coord_laws.proofs.Past.{commits_once, records_name, undecided_unmarked}
+use Rattle.coord_laws.proofs.ForCallers.{commits_once, committed_tid, records_name, tickets_name, undecided_unmarked}
 use Rattle.journal_disk.specs.Frames.{IsPayload}
 use Rattle.coord_journal.specs.PayloadSizes.{payload_has_size}
 use Rattle.coord_journal.specs.Spelling.{InRange, spelling}

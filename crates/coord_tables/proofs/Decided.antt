@@ -7,11 +7,9 @@ use Rattle.mdb_base.specs.declared.names.Tid.{Tid}
 use Rattle.mdb_base.specs.declared.names.Tx.{Tx}
 use Rattle.mdb_base.specs.Names.{same_tid}
 use Rattle.mdb_base.specs.Words.{Each, map_some, or_else, some_of, those, with_some}
-use Rattle.mdb_base.proofs.NameLaws.{same_tid-equal, same_tid-refl, same_tid-sym}
-use Rattle.mdb_base.proofs.JoinLaws.{reverse_more}
-use Rattle.mdb_base.proofs.TestLaws.{those_append}
+use Rattle.mdb_base.proofs.ForCallers.{reverse_more, same_tid-equal, same_tid-refl, same_tid-sym, those_append}
 use Rattle.order_laws.specs.Chains.{In, Distinct}
-use Rattle.order_laws.proofs.Lists.{those_in}
+use Rattle.order_laws.proofs.ForCallers.{those_in}
 use Rattle.presumptions.specs.declared.Decision.{Decision}
 use Rattle.presumptions.specs.declared.Participant.{Participant}
 use Rattle.fed_rules.specs.declared.answers.Answer.{Answer}
@@ -22,8 +20,8 @@ use Rattle.fed_rules.specs.Coord.{forgets_at_once as forgets_past}
 use Rattle.fed_rules.specs.CoordRecords.{committed_of, commits, is_nobody, named, required_of}
 use Rattle.fed_rules.specs.CoordPast.{CoordHappening, CoordPast, Standing, Undecided, Decided, Gone, begins, begun_by, begun_tids, decides, is_about, is_open, is_prepare_of, is_take_of, known_decision, opened, participants, records, standing, standing_of}
 use Rattle.fed_rules.specs.CoordPast as Past
-use Rattle.coord_laws.proofs.Past.{begin_once}
-use Rattle.site_history.proofs.OrdersRun.{distinct_reverse}
+use Rattle.coord_laws.proofs.ForCallers.{begin_once}
+use Rattle.site_history.proofs.ForCallers.{distinct_reverse}
 use Rattle.global_exec.specs.Firsts.{taken_out}
 use Rattle.global_exec.specs.Live as live
 use Rattle.global_exec.specs.Live.{Live, live_of}
@@ -31,7 +29,7 @@ use Rattle.protocol_table.specs.declared.known.Known.{Known}
 use Rattle.protocol_table.specs.Agreement.{IsKnownAs, IsNamedAs, IsUndecidedAs}
 use Rattle.protocol_table.specs.Attempts.{IsUndecided, LacksDecision, changed, known_of, without}
 use Rattle.protocol_table.specs.Ends.{decide, forgets_at_once, initiate}
-use Rattle.protocol_table.proofs.Going.{decisions_go}
+use Rattle.protocol_table.proofs.ForCallers.{decisions_go}
 use Rattle.ticket_graph.specs.Graph.{AreHeld, StandsFor}
 use Rattle.coord_tables.specs.Trees.{committed_in}
 use Rattle.coord_tables.specs.declared.stages.Stage.{Stage}

@@ -10,9 +10,7 @@ use Rattle.mdb_base.specs.declared.replies.Why.TheVariants as Because
 use Rattle.mdb_base.specs.Names.{same_site, same_tid}
 use Rattle.mdb_base.specs.Rising.{IsRising}
 use Rattle.mdb_base.specs.Words.{first_where, holds_of, how_many, map_some, or_else, some_of, those, when, with_some}
-use Rattle.mdb_base.proofs.ListLaws.{each_filtered, each_map}
-use Rattle.mdb_base.proofs.NameLaws.{same_tid-equal, same_tid-refl, same_site-sym}
-use Rattle.mdb_base.proofs.RisingLaws.{rising_rest}
+use Rattle.mdb_base.proofs.ForCallers.{each_filtered, each_map, rising_rest, same_site-sym, same_tid-equal, same_tid-refl}
 use Rattle.presumptions.specs.declared.Participant.{Participant}
 use Rattle.fed_rules.specs.declared.answers.Answer.{Answer}
 use Rattle.fed_rules.specs.declared.answers.Answer.TheVariants as Say
@@ -25,17 +23,13 @@ use Rattle.fed_rules.specs.Happenings.{quiet}
 use Rattle.fed_rules.specs.Coord.{aborts, answered, defers_some, did_counts, did_reply, fits, held_back, let_through, may_take, news as past_news, of_did, of_take, sends_dues, sends_news}
 use Rattle.fed_rules.specs.CoordPast.{CoordHappening, CoordPast, begins, counted, counts as counts_answer, epoch_at, is_open, is_ticket, is_wait, last_epoch, outstanding, participants_of, vote_at, visits}
 use Rattle.fed_rules.specs.CoordPast as Past
-use Rattle.rules_laws.proofs.CoordPasts.{counts_open}
+use Rattle.rules_laws.proofs.ForCallers.{counts_open}
 use Rattle.global_exec.specs.Agreement.{IsOfPast, progress_in}
 use Rattle.global_exec.specs.Counted.{advanced, after_did, counts, is_answer, news_by}
 use Rattle.global_exec.specs.Firsts.{replaced}
 use Rattle.global_exec.specs.Live.{Live, is_of, live_of}
 use Rattle.global_exec.specs.Pasts.{IsAmong, IsOnly}
-use Rattle.global_exec.proofs.Keeps.{did_same}
-use Rattle.global_exec.proofs.CountPasts.{counts_link}
-use Rattle.global_exec.proofs.ExecPasts.{answer_of_past}
-use Rattle.global_exec.proofs.NewsPasts.{news_link}
-use Rattle.global_exec.proofs.Rises.{each_above}
+use Rattle.global_exec.proofs.ForCallers.{answer_of_past, counts_link, did_same, each_above, news_link}
 use Rattle.coord_tables.specs.declared.tables.Tables.{Tables}
 use Rattle.coord_tables.specs.Attempts.{IsLiveAs}
 use Rattle.coord_tables.specs.Sending.{IsSending, after_taken, is_held, passed, says_sent}

@@ -5,10 +5,9 @@ use Rattle.std.proofs.lemmas.Map.Keys.{IsDistinct-cons}
 use Rattle.mdb_base.specs.declared.names.Tid.{Tid}
 use Rattle.mdb_base.specs.Names.{same_tid}
 use Rattle.mdb_base.specs.Words.{Each, how_many, those}
-use Rattle.mdb_base.proofs.NameLaws.{same_tid-equal, same_tid-refl}
-use Rattle.mdb_base.proofs.JoinLaws.{reverse_more}
+use Rattle.mdb_base.proofs.ForCallers.{reverse_more, same_tid-equal, same_tid-refl}
 use Rattle.order_laws.specs.Chains.{Distinct, In}
-use Rattle.order_laws.proofs.Lists.{in_front, in_last}
+use Rattle.order_laws.proofs.ForCallers.{in_front, in_last}
 use Rattle.field_bytes.specs.Fields.{IsTid}
 use Rattle.record_fields.specs.Sums.{tid_number}
 use Rattle.coord_tables.proofs.SumRanges.{Rises}

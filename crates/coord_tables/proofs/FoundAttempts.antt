@@ -6,11 +6,9 @@ use Rattle.mdb_base.specs.declared.names.Tid.{Tid}
 use Rattle.mdb_base.specs.declared.names.Tx.{Tx}
 use Rattle.mdb_base.specs.Names.{same_tid, tid_before}
 use Rattle.mdb_base.specs.Words.{Each, inserted, some_of, those}
-use Rattle.mdb_base.proofs.ListLaws.{append_each, each_append, each_filtered, each_inserted, each_map, each_of_map}
+use Rattle.mdb_base.proofs.ForCallers.{append_each, each_append, each_filtered, each_inserted, each_map, each_of_map}
 use Rattle.order_laws.specs.Chains.{In}
-use Rattle.order_laws.proofs.InLaws.{each_reverse}
-use Rattle.order_laws.proofs.Lists.{each_from}
-use Rattle.order_laws.proofs.Members.{in_each}
+use Rattle.order_laws.proofs.ForCallers.{each_from, each_reverse, in_each}
 use Rattle.presumptions.specs.declared.Participant.{Participant}
 use Rattle.fed_rules.specs.declared.records.CoordRecord.{CoordRecord}
 use Rattle.fed_rules.specs.declared.records.CoordRecord.TheVariants as Rec
@@ -26,9 +24,7 @@ use Rattle.fed_rules.specs.Reopened.{coord_read, commit_read, coord_sum_read, en
 use Rattle.fed_rules.specs.Usable.{CoordSumsFit}
 use Rattle.fed_rules.specs.Usable as Usable
 use Rattle.coord_laws.specs.Pasts.{NameDeclared}
-use Rattle.coord_laws.proofs.Begun.{below_listed}
-use Rattle.coord_laws.proofs.CoordOpened.{read_is}
-use Rattle.coord_laws.proofs.OpenedPasts.{opened_attempts, opened_begun, opened_numbered, with_more, with_own}
+use Rattle.coord_laws.proofs.ForCallers.{below_listed, opened_attempts, opened_begun, opened_numbered, read_is, with_more, with_own}
 use Rattle.coord_tables.specs.Found.{attempts_in, found_attempts}
 use Rattle.coord_tables.proofs.Reaches.{found_all, found_most}
 

@@ -5,14 +5,13 @@ use Rattle.mdb_base.specs.declared.names.SiteId.{SiteId}
 use Rattle.mdb_base.specs.declared.names.SiteTicket.{SiteTicket}
 use Rattle.mdb_base.specs.declared.names.Tid.{Tid}
 use Rattle.mdb_base.specs.Words.{Each}
-use Rattle.mdb_base.proofs.ListLaws.{append_each, each_all}
+use Rattle.mdb_base.proofs.ForCallers.{append_each, each_all}
 use Rattle.order_laws.specs.Chains.{In}
 use Rattle.order_laws.specs.Tickets.{Ticketed}
-use Rattle.order_laws.proofs.Lists.{in_front, in_last}
-use Rattle.order_laws.proofs.Reversed.{in_push}
+use Rattle.order_laws.proofs.ForCallers.{in_front, in_last, in_push}
 use Rattle.fed_rules.specs.declared.sums.CommittedAttempt.{CommittedAttempt}
 use Rattle.ticket_graph.specs.Graph.{AreAbove, Graph, StandsFor, floor_of, tids_of}
-use Rattle.ticket_graph.proofs.GraphLemmas.{in_tids, tid_in}
+use Rattle.ticket_graph.proofs.ForCallers.{in_tids, tid_in}
 use Rattle.coord_tables.specs.Starting.{ticketed_by}
 
 -- all tickets are at least floors of 0

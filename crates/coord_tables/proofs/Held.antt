@@ -2,8 +2,7 @@
 use Rattle.std.proofs.Common.{◌≡◌, Bool, true, false, cond, not, ◌&&◌, ◌||◌, List, [], ◌∷◌, refl, sym, ap, ◌∙◌}
 use Rattle.std.proofs.lemmas.Bool.{or_parts}
 use Rattle.mdb_base.specs.Words.{some_of}
-use Rattle.mdb_base.proofs.BoolLaws.{and_false}
-use Rattle.mdb_base.proofs.ListLaws.{each_all, those_all}
+use Rattle.mdb_base.proofs.ForCallers.{and_false, each_all, those_all}
 use Rattle.fed_rules.specs.declared.messages.Due.{Due}
 use Rattle.fed_rules.specs.Coord.{is_take}
 use Rattle.coord_tables.specs.Sending.{HoldsTheSame, is_held, passed}

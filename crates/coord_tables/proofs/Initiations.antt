@@ -5,12 +5,12 @@ use Rattle.std.specs.List.{AllByRecursion}
 use Rattle.mdb_base.specs.declared.names.Tid.{Tid}
 use Rattle.mdb_base.specs.Rising.{IsRising}
 use Rattle.mdb_base.specs.Words.{Each, some_of}
-use Rattle.mdb_base.proofs.ListLaws.{each_filtered}
-use Rattle.order_laws.proofs.Members.{in_each}
+use Rattle.mdb_base.proofs.ForCallers.{each_filtered, those_rise}
+use Rattle.order_laws.proofs.ForCallers.{in_each}
 use Rattle.presumptions.specs.declared.Participant.{Participant}
 use Rattle.field_bytes.specs.Fields.{IsTid}
 use Rattle.record_fields.specs.Named.{IsSite}
-use Rattle.record_fields.proofs.Sizes.{few_sites}
+use Rattle.record_fields.proofs.ForCallers.{few_sites}
 use Rattle.fed_rules.specs.declared.messages.Due.{Due}
 use Rattle.fed_rules.specs.declared.records.CoordRecord.{CoordRecord}
 use Rattle.fed_rules.specs.declared.records.CoordRecord.TheVariants as Rec
@@ -24,12 +24,11 @@ use Rattle.protocol_table.specs.declared.known.Known.{Known}
 use Rattle.protocol_table.specs.Agreement.{IsKnownAs, IsUndecidedAs}
 use Rattle.protocol_table.specs.Attempts.{known_of, participant_of}
 use Rattle.protocol_table.specs.Attempts as table
-use Rattle.protocol_table.proofs.Agreeing.{classes_agree, voters_are}
+use Rattle.protocol_table.proofs.ForCallers.{classes_agree, voters_are}
 use Rattle.coord_tables.specs.declared.tables.Tables.{Tables}
 use Rattle.coord_tables.specs.Sending.{initiation_of}
 use Rattle.coord_tables.specs.Tables.{IsServing}
 use Rattle.coord_tables.specs.Terms.{Terms, IsSound}
-use Rattle.mdb_base.proofs.RisingLaws.{those_rise}
 use Rattle.coord_tables.proofs.Outflow.{voters_rise}
 use Rattle.coord_tables.proofs.Phases.{open_begun}
 

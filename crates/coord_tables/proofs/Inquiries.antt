@@ -22,7 +22,7 @@ use Rattle.protocol_table.specs.declared.ends.Said.TheVariants as Said_is
 use Rattle.protocol_table.specs.Agreement.{told}
 use Rattle.protocol_table.specs.Attempts.{known_of}
 use Rattle.protocol_table.specs.Ends.{said}
-use Rattle.protocol_table.proofs.Agreeing.{answers_agree}
+use Rattle.protocol_table.proofs.ForCallers.{answers_agree}
 use Rattle.coord_tables.specs.declared.tables.Tables.{Tables}
 use Rattle.coord_tables.specs.declared.stages.Stage.{Stage}
 use Rattle.coord_tables.specs.Attempts.{last_of, open_tids}

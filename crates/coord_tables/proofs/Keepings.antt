@@ -2,7 +2,7 @@
 use Rattle.std.proofs.Common.{◌≡◌, ℕ, ◌<◌, ◌+◌, Bool, true, false, cond, List, [], ◌∷◌, ◌++◌, get_or, length, map, take, sym, ap, ◌∙◌}
 use Rattle.std.proofs.lemmas.List.{append-nil, take_more, map_push}
 use Rattle.mdb_base.specs.Words.{those}
-use Rattle.mdb_base.proofs.TestLaws.{those_append}
+use Rattle.mdb_base.proofs.ForCallers.{those_append}
 
 pub next_kept : {A B : Type 0} (f : A → B) (test : A → Bool) (xs : List A) (i : ℕ) (x : A) (b : Bool) → i < length xs → x ≡ get_or xs i x → test x ≡ b
     → map f (those test (take (i + 1) xs)) ≡ cond b (map f (those test (take i xs)) ++ f x ∷ []) (map f (those test (take i xs)))

@@ -4,7 +4,7 @@ use Rattle.std.proofs.lemmas.Bool.{cond-true, cond-false}
 use Rattle.mdb_base.specs.declared.names.Tid.{Tid}
 use Rattle.mdb_base.specs.Names.{same_tid}
 use Rattle.mdb_base.specs.Words.{Each, first_where, those}
-use Rattle.mdb_base.proofs.NameLaws.{same_tid-equal, same_tid-sym}
+use Rattle.mdb_base.proofs.ForCallers.{same_tid-equal, same_tid-sym}
 use Rattle.fed_rules.specs.declared.sums.CommittedAttempt.{CommittedAttempt}
 use Rattle.fed_rules.specs.declared.sums.OpenAttempt.{OpenAttempt}
 use Rattle.protocol_table.specs.declared.known.Known.{Known}

@@ -1,38 +1,39 @@
-pub mod Aborts
-pub mod Acking
-pub mod Again
-pub mod Beginnings
-pub mod Calm
-pub mod Committing
-pub mod Decided
-pub mod Dids
-pub mod EachOnce
-pub mod Empty
-pub mod FoundAttempts
-pub mod Graphs
-pub mod Held
-pub mod Initiations
-pub mod Inquiries
-pub mod Keepings
-pub mod KnownAgain
-pub mod Lates
-pub mod Lines
-pub mod Listings
-pub mod Noting
-pub mod OneActive
-pub mod Outcomes
-pub mod Outflow
-pub mod Own
-pub mod Phases
-pub mod Sent
-pub mod Reaches
-pub mod Serving
-pub mod Staged
-pub mod Starts
-pub mod SumRanges
-pub mod Tabled
-pub mod Trees
-pub mod Visits
-pub mod Voting
-pub mod Waiting
-pub mod Waits
+pub mod ForCallers
+mod Aborts
+mod Acking
+mod Again
+mod Beginnings
+mod Calm
+mod Committing
+mod Decided
+mod Dids
+mod EachOnce
+mod Empty
+mod FoundAttempts
+mod Graphs
+mod Held
+mod Initiations
+mod Inquiries
+mod Keepings
+mod KnownAgain
+mod Lates
+mod Lines
+mod Listings
+mod Noting
+mod OneActive
+mod Outcomes
+mod Outflow
+mod Own
+mod Phases
+mod Sent
+mod Reaches
+mod Serving
+mod Staged
+mod Starts
+mod SumRanges
+mod Tabled
+mod Trees
+mod Visits
+mod Voting
+mod Waiting
+mod Waits

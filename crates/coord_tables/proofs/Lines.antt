@@ -5,7 +5,7 @@ use Rattle.mdb_base.specs.declared.names.SiteId.{SiteId}
 use Rattle.mdb_base.specs.declared.names.Tid.{Tid}
 use Rattle.mdb_base.specs.Names.{same_site}
 use Rattle.mdb_base.specs.Words.{found, some_of}
-use Rattle.mdb_base.proofs.ListLaws.{each_map}
+use Rattle.mdb_base.proofs.ForCallers.{each_map}
 use Rattle.presumptions.specs.declared.Decision.{Decision}
 use Rattle.presumptions.specs.declared.Participant.{Participant}
 use Rattle.fed_rules.specs.declared.events.CoordEvent.{CoordEvent}
@@ -19,7 +19,7 @@ use Rattle.fed_rules.specs.CoordPast.{CoordHappening, CoordPast, Standing, Undec
 use Rattle.fed_rules.specs.CoordPast as Past
 use Rattle.fed_rules.specs.Right.{IsRefusal, SameButCycle}
 use Rattle.global_exec.specs.Live.{Live}
-use Rattle.global_exec.proofs.ExecPasts.{IsSame, elsewhere_same, map-same, same_of_past}
+use Rattle.global_exec.proofs.ForCallers.{IsSame, elsewhere_same, map-same, same_of_past}
 use Rattle.protocol_table.specs.declared.known.Known.{Known}
 use Rattle.protocol_table.specs.Agreement.{IsKnownAs, voter}
 use Rattle.global_exec.specs.declared.policy.SiteSet.{SiteSet}

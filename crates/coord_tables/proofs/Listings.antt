@@ -7,17 +7,16 @@ use Rattle.std.proofs.lemmas.List.Sorted.{IsPermutation-reverse, IsPermutation-s
 use Rattle.mdb_base.specs.declared.names.Tid.{Tid}
 use Rattle.mdb_base.specs.Names.{same_tid, tid_before, tid_cmp}
 use Rattle.mdb_base.specs.Words.{inserted, those}
-use Rattle.mdb_base.proofs.NameLaws.{same_tid-equal, same_tid-refl}
+use Rattle.mdb_base.proofs.ForCallers.{same_tid-equal, same_tid-refl}
 use Rattle.order_laws.specs.Chains.{Distinct, In}
-use Rattle.order_laws.proofs.Lists.{those_in, in_those}
+use Rattle.order_laws.proofs.ForCallers.{all_put, in_those, those_in}
 use Rattle.presumptions.specs.declared.Decision.{Decision}
 use Rattle.fed_rules.specs.Closing.{rising}
 use Rattle.fed_rules.specs.CoordPast.{CoordPast, Standing, begun_tids, is_known, is_open, known_decision, standing, standing_of}
 use Rattle.fed_rules.specs.CoordPast.Standing.{Undecided, Decided, Gone}
-use Rattle.rules_laws.proofs.RisingLists.{rising_one}
-use Rattle.coord_laws.proofs.Past.{begin_once, known_begun}
+use Rattle.rules_laws.proofs.ForCallers.{rising_one}
+use Rattle.coord_laws.proofs.ForCallers.{begin_once, known_begun}
 use Rattle.order_laws.specs.SortedLists.{also}
-use Rattle.order_laws.proofs.SortedLists.{all_put}
 use Rattle.protocol_table.specs.declared.known.Known.{Known}
 use Rattle.protocol_table.specs.Agreement.{IsKnownAs}
 use Rattle.protocol_table.specs.Attempts.{AreApart, is_of, known_of}

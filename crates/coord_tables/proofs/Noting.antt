@@ -3,7 +3,7 @@ use Rattle.std.proofs.Common.{◌≡◌, ℕ, ◌+◌, ◌<◌, Option, None, Li
 use Rattle.std.proofs.lemmas.List.{take_more, map_push}
 use Rattle.mdb_base.specs.declared.names.SiteTicket.{SiteTicket}
 use Rattle.ticket_graph.specs.Reach.{IsLowest, joined}
-use Rattle.ticket_graph.proofs.Meeting.{joined_last}
+use Rattle.ticket_graph.proofs.ForCallers.{joined_last}
 use Rattle.coord_tables.specs.declared.stages.Stage.{Stage}
 use Rattle.coord_tables.specs.Stages.{noted_below, noted_one, stage_tickets}
 

@@ -4,10 +4,10 @@ use Rattle.mdb_base.specs.declared.names.Tid.{Tid}
 use Rattle.mdb_base.specs.declared.names.Tx.{Tx}
 use Rattle.mdb_base.specs.Names.{same_tid, same_tx}
 use Rattle.mdb_base.specs.Words.{Among}
-use Rattle.mdb_base.proofs.NameLaws.{same_tid-equal, same_tx-from}
+use Rattle.mdb_base.proofs.ForCallers.{same_tid-equal, same_tx-from}
 use Rattle.presumptions.specs.declared.Participant.{Participant}
 use Rattle.order_laws.specs.Chains.{In}
-use Rattle.order_laws.proofs.Lists.{first_where_none}
+use Rattle.order_laws.proofs.ForCallers.{first_where_none}
 use Rattle.fed_rules.specs.declared.answers.Answer.TheVariants as Say
 use Rattle.fed_rules.specs.declared.events.CoordEvent.{CoordEvent}
 use Rattle.fed_rules.specs.declared.records.CoordRecord.{CoordRecord}
@@ -21,14 +21,9 @@ use Rattle.fed_rules.specs.Reopened.{coord_read, opened_coordinator}
 use Rattle.fed_rules.specs.Usable.{CommitOnce, IsCommitOf}
 use Rattle.fed_rules.specs.Usable as Usable
 use Rattle.rules_laws.specs.Active.{IsActive}
-use Rattle.rules_laws.proofs.CoordRecords.{none_committed}
+use Rattle.rules_laws.proofs.ForCallers.{none_committed}
 use Rattle.coord_laws.specs.Pasts.{IsGoingOn, IsNextLine, NameDeclared}
-use Rattle.coord_laws.proofs.Begun.{begun_answer}
-use Rattle.coord_laws.proofs.CoordOpened.{read_is}
-use Rattle.coord_laws.proofs.Made.{IsFirst, IsMade}
-use Rattle.coord_laws.proofs.OpenedPasts.{opened_disk}
-use Rattle.coord_laws.proofs.Past.{known_begun, past_made}
-use Rattle.coord_laws.proofs.Begins.{begins_same, active_from}
+use Rattle.coord_laws.proofs.ForCallers.{IsFirst, IsMade, active_from, begins_same, begun_answer, known_begun, opened_disk, past_made, read_is}
 use Rattle.coord_tables.specs.Terms.{OneActive}
 
 -- where an attempt begins, no other one of its transaction is active

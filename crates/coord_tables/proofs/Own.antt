@@ -5,8 +5,7 @@ use Rattle.mdb_base.specs.declared.names.Tid.{Tid}
 use Rattle.mdb_base.specs.declared.names.Tx.{Tx}
 use Rattle.mdb_base.specs.Names.{same_tid}
 use Rattle.mdb_base.specs.Words.{Each, found, some_of, with_some}
-use Rattle.mdb_base.proofs.ListLaws.{each_map}
-use Rattle.mdb_base.proofs.NameLaws.{same_tid-equal, same_tid-sym}
+use Rattle.mdb_base.proofs.ForCallers.{each_map, or_swapped, same_tid-equal, same_tid-sym}
 use Rattle.presumptions.specs.declared.Participant.{Participant}
 use Rattle.fed_rules.specs.CoordRecords.{committed_of, commits}
 use Rattle.fed_rules.specs.CoordPast.{CoordHappening, CoordPast, begun_by, counted, has_sent, is_open, is_prepare_of, is_take_of, program, records, standing}
@@ -28,7 +27,6 @@ use Rattle.coord_tables.specs.Waiting.{ticket_in, waiting}
 use Rattle.coord_tables.proofs.Lines.{IsAsBefore, known_stays, live_stays, sites_stay}
 use Rattle.coord_tables.proofs.Serving.{open_same}
 use Rattle.coord_tables.proofs.Waiting.{noted_more, noted_stays}
-use Rattle.mdb_base.proofs.BoolLaws.{or_swapped}
 
 -- what holds of an attempt and of each other one holds of all
 pub by_tid : (P : Tid → Type 0) (tid : Tid) → P tid → ((t : Tid) → same_tid tid t ≡ false → P t) → (t : Tid) → P t

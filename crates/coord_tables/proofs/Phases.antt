@@ -7,26 +7,21 @@ use Rattle.mdb_base.specs.declared.names.SiteId.{SiteId}
 use Rattle.mdb_base.specs.declared.names.Tid.{Tid}
 use Rattle.mdb_base.specs.Names.{same_tid}
 use Rattle.mdb_base.specs.Words.{Each, those}
-use Rattle.mdb_base.proofs.ListLaws.{each_filtered}
-use Rattle.mdb_base.proofs.NameLaws.{same_tid-equal, same_tid-refl}
-use Rattle.mdb_base.proofs.JoinLaws.{reverse_more}
-use Rattle.mdb_base.proofs.TestLaws.{those_append}
+use Rattle.mdb_base.proofs.ForCallers.{each_filtered, reverse_more, same_tid-equal, same_tid-refl, those_append, those_rise}
 use Rattle.presumptions.specs.declared.Participant.{Participant}
 use Rattle.record_fields.specs.Named as Fields
 use Rattle.order_laws.specs.Chains.{In}
-use Rattle.order_laws.proofs.Lists.{in_those}
-use Rattle.order_laws.proofs.Reversed.{in_reverse}
+use Rattle.order_laws.proofs.ForCallers.{in_reverse, in_those}
 use Rattle.fed_rules.specs.CoordPast.{CoordPast, begun_tids, has_sent, in_phase, is_known, is_open, is_take_of, known_decision, oldest_first, others_in_phase, participants, program, sites_of, standing_of, visits}
-use Rattle.coord_laws.proofs.Past.{known_begun}
+use Rattle.coord_laws.proofs.ForCallers.{known_begun}
 use Rattle.global_exec.specs.Sets.{IsSite, sites_in}
 use Rattle.global_exec.specs.declared.policy.SiteSet.{SiteSet}
-use Rattle.global_exec.proofs.SetLists.{sets_are_lists}
-use Rattle.rules_laws.proofs.SendsRise.{sites_rise}
+use Rattle.global_exec.proofs.ForCallers.{sets_are_lists}
+use Rattle.rules_laws.proofs.ForCallers.{sites_rise}
 use Rattle.coord_tables.specs.declared.stages.Stage.{Stage}
 use Rattle.coord_tables.specs.Attempts.{open_tids}
 use Rattle.coord_tables.specs.Stages.{AreStagesOf, HasSitesOf, IsStageOf, is_of, others_taking, stage_of}
 use Rattle.coord_tables.specs.Terms.{Terms, IsSound}
-use Rattle.mdb_base.proofs.RisingLaws.{those_rise}
 
 pub sites_named : (ps : List Participant) → Each (λ p. Fields.IsSite p.site) ps → Each IsSite (map (λ (p : Participant). p.site) ps)
 sites_named [] h = tt

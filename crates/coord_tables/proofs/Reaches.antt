@@ -8,8 +8,7 @@ use Rattle.mdb_base.specs.declared.names.Tid.{Tid}
 use Rattle.mdb_base.specs.declared.names.Tx.{Tx}
 use Rattle.mdb_base.specs.Names.{same_tx}
 use Rattle.mdb_base.specs.Words.{Each}
-use Rattle.mdb_base.proofs.ListLaws.{each_append}
-use Rattle.mdb_base.proofs.NameLaws.{same_tx-equal, same_tx-from}
+use Rattle.mdb_base.proofs.ForCallers.{each_append, same_tx-equal, same_tx-from}
 use Rattle.fed_rules.specs.declared.records.CoordRecord.{CoordRecord}
 use Rattle.fed_rules.specs.declared.records.CoordRecord.TheVariants.{Checkpoint}
 use Rattle.fed_rules.specs.declared.sums.CommittedAttempt.{CommittedAttempt}

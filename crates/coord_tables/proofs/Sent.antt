@@ -6,7 +6,7 @@ use Rattle.mdb_base.specs.declared.names.Tid.{Tid}
 use Rattle.mdb_base.specs.declared.names.Tx.{Tx}
 use Rattle.mdb_base.specs.Names.{same_tid}
 use Rattle.mdb_base.specs.Words.{map_some, some_of, when, with_some}
-use Rattle.mdb_base.proofs.NameLaws.{same_tid-refl}
+use Rattle.mdb_base.proofs.ForCallers.{same_tid-refl}
 use Rattle.presumptions.specs.declared.Participant.{Participant}
 use Rattle.fed_rules.specs.declared.answers.Answer.{Answer}
 use Rattle.fed_rules.specs.declared.answers.Answer.TheVariants as Say
@@ -27,7 +27,7 @@ use Rattle.protocol_table.specs.declared.known.Known.{Known}
 use Rattle.protocol_table.specs.Agreement.{IsKnownAs, IsUndecidedAs}
 use Rattle.protocol_table.specs.Attempts.{changed, known_of}
 use Rattle.protocol_table.specs.Ends.{initiate}
-use Rattle.protocol_table.proofs.Going.{records_go, undecided_stay}
+use Rattle.protocol_table.proofs.ForCallers.{records_go, undecided_stay}
 use Rattle.ticket_graph.specs.Graph.{AreHeld, StandsFor}
 use Rattle.coord_tables.specs.declared.stages.Stage.{Stage}
 use Rattle.coord_tables.specs.declared.tables.Tables.{Tables}

@@ -5,7 +5,7 @@ use Rattle.mdb_base.specs.declared.names.Tid.{Tid}
 use Rattle.mdb_base.specs.declared.names.Tx.{Tx}
 use Rattle.mdb_base.specs.Names.{same_tx}
 use Rattle.mdb_base.specs.Words.{Each, how_many, those, with_some}
-use Rattle.mdb_base.proofs.ListLaws.{each_map}
+use Rattle.mdb_base.proofs.ForCallers.{each_map}
 use Rattle.presumptions.specs.declared.Participant.{Participant}
 use Rattle.field_bytes.specs.Fields.{IsTid}
 use Rattle.fed_rules.specs.declared.events.CoordEvent.{CoordEvent}

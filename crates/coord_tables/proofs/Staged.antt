@@ -8,11 +8,10 @@ use Rattle.mdb_base.specs.declared.names.Tid.{Tid}
 use Rattle.mdb_base.specs.declared.names.Tx.{Tx}
 use Rattle.mdb_base.specs.Names.{same_tx}
 use Rattle.mdb_base.specs.Words.{Each, first_where, map_some, those}
-use Rattle.mdb_base.proofs.ListLaws.{append_each}
-use Rattle.mdb_base.proofs.NameLaws.{same_tid-equal, tests_agree}
+use Rattle.mdb_base.proofs.ForCallers.{append_each, same_tid-equal, tests_agree}
 use Rattle.global_exec.specs.declared.policy.SiteSet.{SiteSet}
 use Rattle.global_exec.specs.Firsts.{taken_out}
-use Rattle.global_exec.proofs.Firsts.{read_there}
+use Rattle.global_exec.proofs.ForCallers.{read_there}
 use Rattle.coord_tables.specs.declared.stages.Stage.{Stage}
 use Rattle.coord_tables.specs.Attempts.{last_of}
 use Rattle.coord_tables.specs.Staged.{AreStaged}

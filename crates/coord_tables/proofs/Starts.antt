@@ -7,12 +7,10 @@ use Rattle.mdb_base.specs.declared.names.Tid.{Tid}
 use Rattle.mdb_base.specs.declared.names.Tx.{Tx}
 use Rattle.mdb_base.specs.Names.{same_tid, same_tx}
 use Rattle.mdb_base.specs.Words.{Among, Each, first_where, how_many, map_some, or_else, those}
-use Rattle.mdb_base.proofs.ListLaws.{each_filtered}
-use Rattle.mdb_base.proofs.NameLaws.{same_tid-equal, same_tid-refl, same_tx-from}
+use Rattle.mdb_base.proofs.ForCallers.{each_filtered, same_tid-equal, same_tid-refl, same_tx-from}
 use Rattle.order_laws.specs.Chains.{Distinct, In}
 use Rattle.order_laws.specs.Tickets.{HasNoCycle, IsEdge, OneEach, Ticketed}
-use Rattle.order_laws.proofs.Lists.{first_where_none, first_where_some, in_those, those_in}
-use Rattle.order_laws.proofs.Reversed.{in_reverse}
+use Rattle.order_laws.proofs.ForCallers.{first_where_none, first_where_some, in_reverse, in_those, those_in}
 use Rattle.presumptions.specs.declared.Decision.{Decision}
 use Rattle.presumptions.specs.declared.Decision.TheVariants as Decided
 use Rattle.presumptions.specs.declared.Participant.{Participant}
@@ -28,20 +26,17 @@ use Rattle.fed_rules.specs.CoordRecords.{acking, committed_of, commits, has_comm
 use Rattle.fed_rules.specs.CoordSums.{coord_sum}
 use Rattle.fed_rules.specs.Happenings.{comes_up, stops}
 use Rattle.coord_journal.specs.Spelling.{IsRecord}
-use Rattle.coord_laws.proofs.Past.{commits_close_none, recorded_begun}
+use Rattle.coord_laws.proofs.ForCallers.{commits_close_none, going_journals_say_all, going_tells, journal_tells, made_journals_say_all, recorded_begun}
 use Rattle.coord_laws.specs.CoordRestarts.{TellsRecords, outcome_of}
-use Rattle.coord_laws.proofs.CoordRestarts.{journal_tells, made_journals_say_all}
-use Rattle.coord_laws.proofs.CoordRestarts.{going_journals_say_all, going_tells}
 use Rattle.global_exec.specs.Live.{Live, live_of}
 use Rattle.protocol_table.specs.declared.known.Known.{Known}
 use Rattle.protocol_table.specs.declared.known.Restored.{Restored}
 use Rattle.protocol_table.specs.Agreement.{IsDecidedAs, IsKnownAs}
 use Rattle.protocol_table.specs.Attempts.{AreApart, decision_of, known_of, restored}
-use Rattle.protocol_table.proofs.Going.{restarts_go}
+use Rattle.protocol_table.proofs.ForCallers.{restarts_go}
 use Rattle.ticket_graph.specs.Graph.{Graph, StandsFor}
-use Rattle.ticket_graph.proofs.GraphLemmas.{in_tids, tid_in}
-use Rattle.rules_laws.proofs.EachAttempt.{in_with}
-use Rattle.rules_laws.proofs.CoordRecords.{none_committed, some_committed}
+use Rattle.ticket_graph.proofs.ForCallers.{in_tids, tid_in}
+use Rattle.rules_laws.proofs.ForCallers.{in_with, none_committed, some_committed}
 use Rattle.coord_tables.specs.declared.stages.Stage.{Stage}
 use Rattle.coord_tables.specs.declared.tables.Tables.{Tables}
 use Rattle.coord_tables.specs.Attempts.{IsLiveAs, last_of}

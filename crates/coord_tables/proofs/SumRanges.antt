@@ -9,8 +9,7 @@ use Rattle.mdb_base.specs.declared.names.Tid.{Tid}
 use Rattle.mdb_base.specs.Names.{same_tid, tid_before}
 use Rattle.mdb_base.specs.Rising.{IsRising}
 use Rattle.mdb_base.specs.Words.{Each, inserted, some_of, those}
-use Rattle.mdb_base.proofs.ListLaws.{each_filtered, each_inserted, each_map}
-use Rattle.mdb_base.proofs.NameLaws.{same_tid-equal}
+use Rattle.mdb_base.proofs.ForCallers.{each_filtered, each_inserted, each_map, same_tid-equal}
 use Rattle.order_laws.specs.Chains.{In, Distinct}
 use Rattle.presumptions.specs.declared.Participant.{Participant}
 use Rattle.field_bytes.specs.Fields.{IsTid}
@@ -25,8 +24,7 @@ use Rattle.fed_rules.specs.CoordRecords.{class_of, ends_at_once, has_ticket, tic
 use Rattle.fed_rules.specs.CoordSums.{also_open, committed_with, coord_sum, open_with}
 use Rattle.record_fields.specs.AttemptOrder.{before-less}
 use Rattle.coord_journal.specs.Spelling.{IsCommittedInRange, IsOpenInRange, IsRecord, IsSumInRange}
-use Rattle.coord_laws.proofs.OneEach.{tids_of}
-use Rattle.coord_laws.proofs.Past.{commits_once}
+use Rattle.coord_laws.proofs.ForCallers.{commits_once, tids_of}
 use Rattle.coord_tables.specs.Terms.{Terms, IsSound}
 
 -- ---- attempts by their numbers

@@ -13,7 +13,7 @@ use Rattle.mdb_base.specs.Words.{first_where, or_else}
 use Rattle.fed_rules.specs.declared.sums.CommittedAttempt.{CommittedAttempt}
 use Rattle.coord_tables.specs.Attempts.{last_of}
 use Rattle.coord_tables.specs.Trees.{committed_in, entry_of}
-use Rattle.mdb_base.proofs.NameOrders.{tx_ties, txs_total}
+use Rattle.mdb_base.proofs.ForCallers.{tx_ties, txs_total}
 
 own_test : (t x y : Tx) → eq_by_cmp tx_cmp t x ≡ true → eq_by_cmp tx_cmp t y ≡ eq_by_cmp tx_cmp x y
 own_test t x y e = (eq_by_cmp_equiv txs_total).congr t x y e

@@ -21,14 +21,11 @@ use Rattle.global_exec.specs.Live as live
 use Rattle.global_exec.specs.Live.{Live, all_due, all_sites, due_in, fresh_at, live_of}
 use Rattle.global_exec.specs.Pasts.{IsAmong}
 use Rattle.global_exec.specs.Sets.{has_site}
-use Rattle.global_exec.proofs.SetLists.{sets_are_lists}
+use Rattle.global_exec.proofs.ForCallers.{sets_are_lists}
 use Rattle.coord_tables.specs.Terms.{Terms, IsSound}
-use Rattle.mdb_base.proofs.RisingLaws.{those_rise}
-use Rattle.rules_laws.proofs.SendsRise.{sites_rise}
+use Rattle.mdb_base.proofs.ForCallers.{and_false, each_filtered, same_site-equal, those_rise}
+use Rattle.rules_laws.proofs.ForCallers.{sites_rise}
 use Rattle.coord_tables.proofs.Phases.{sites_named}
-use Rattle.mdb_base.proofs.ListLaws.{each_filtered}
-use Rattle.mdb_base.proofs.NameLaws.{same_site-equal}
-use Rattle.mdb_base.proofs.BoolLaws.{and_false}
 use Rattle.record_fields.specs.Named as Fields
 
 pub those_alike : {A : Type 0} (f g : A → Bool) (xs : List A) → Each (λ x. f x ≡ g x) xs → those f xs ≡ those g xs

@@ -9,9 +9,7 @@ use Rattle.mdb_base.specs.declared.names.Tid.{Tid}
 use Rattle.mdb_base.specs.Names.{same_site, same_tid}
 use Rattle.mdb_base.specs.Rising.{IsRising}
 use Rattle.mdb_base.specs.Words.{Each, each_of, found, holds_of, map_some, or_else, some_of, when, with_some}
-use Rattle.mdb_base.proofs.NameLaws.{same_site-equal}
-use Rattle.mdb_base.proofs.RisingLaws.{rising_rest, above_rising}
-use Rattle.mdb_base.proofs.OptionLaws.{cond_some}
+use Rattle.mdb_base.proofs.ForCallers.{above_rising, cond_some, rising_rest, same_site-equal}
 use Rattle.presumptions.specs.declared.Participant.{Participant}
 use Rattle.fed_rules.specs.declared.answers.Answer.TheVariants as Say
 use Rattle.fed_rules.specs.declared.answers.Cause.TheVariants as For
@@ -23,17 +21,13 @@ use Rattle.fed_rules.specs.CoordPast.{CoordHappening, CoordPast, Standing, Undec
 use Rattle.global_exec.specs.Firsts.{replaced}
 use Rattle.global_exec.specs.Live.{Live, awaits_vote, is_of, live_of, voted}
 use Rattle.global_exec.specs.Pasts.{IsAmong}
-use Rattle.global_exec.proofs.CountPasts.{awaits_link}
-use Rattle.global_exec.proofs.ExecPasts.{vote_of_past}
-use Rattle.global_exec.proofs.Rises.{each_above}
+use Rattle.global_exec.proofs.ForCallers.{awaits_link, each_above, vote_of_past}
 use Rattle.protocol_table.specs.declared.known.Known.{Known}
 use Rattle.protocol_table.specs.declared.members.Member.{Member}
 use Rattle.protocol_table.specs.Agreement.{IsKnownAs, IsUndecidedAs, member_ticket, voter}
 use Rattle.protocol_table.specs.Attempts.{changed, has_voted, known_of, lacks_vote, with_vote}
 use Rattle.protocol_table.specs.Ends as ends
-use Rattle.protocol_table.proofs.Agreeing.{votes_agree}
-use Rattle.protocol_table.proofs.Going.{votes_go}
-use Rattle.protocol_table.proofs.Words.{each_of_map}
+use Rattle.protocol_table.proofs.ForCallers.{each_of_map, votes_agree, votes_go}
 use Rattle.ticket_graph.specs.Graph.{AreHeld, StandsFor}
 use Rattle.coord_tables.specs.declared.tables.Tables.{Tables}
 use Rattle.coord_tables.specs.Attempts.{IsLiveAs}

@@ -8,21 +8,18 @@ use Rattle.mdb_base.specs.declared.replies.Reply.{Reply}
 use Rattle.mdb_base.specs.declared.replies.Reply.TheVariants as Reply_is
 use Rattle.mdb_base.specs.Names.{same_site}
 use Rattle.mdb_base.specs.Words.{Among, Each, first_where, found, map_some, with_some}
-use Rattle.mdb_base.proofs.NameLaws.{same_site-equal}
+use Rattle.mdb_base.proofs.ForCallers.{same_site-equal}
 use Rattle.order_laws.specs.Chains.{In}
 use Rattle.order_laws.specs.Tickets.{Ticketed}
-use Rattle.order_laws.proofs.Lists.{among_is, among_map, each_at, first_where_some, in_those, is_among, map_among, those_in}
-use Rattle.order_laws.proofs.Reversed.{in_reverse}
+use Rattle.order_laws.proofs.ForCallers.{among_is, among_map, each_at, first_where_some, in_parts, in_reverse, in_those, is_among, map_among, those_in}
 use Rattle.presumptions.specs.declared.Participant.{Participant}
-use Rattle.order_laws.proofs.InLaws.{in_parts}
 use Rattle.fed_rules.specs.declared.answers.Answer.{Answer}
 use Rattle.fed_rules.specs.declared.answers.Answer.TheVariants as Say
 use Rattle.fed_rules.specs.CoordPast.{CoordHappening, CoordPast, Counted, begins, begun_by, begun_tids, counted, counts, did_in, is_open}
 use Rattle.ticket_graph.specs.Graph.{AreHeld, Graph, IsForwards, IsHeld}
 use Rattle.ticket_graph.specs.Graph.IsHeld.{Waits, Follows}
 use Rattle.ticket_graph.specs.Reach.{are_before}
-use Rattle.ticket_graph.proofs.Reaching.{before_has, has_before}
-use Rattle.ticket_graph.proofs.Pruning.{nothing_before}
+use Rattle.ticket_graph.proofs.ForCallers.{before_has, has_before, nothing_before}
 use Rattle.coord_tables.specs.declared.stages.Stage.{Stage}
 use Rattle.coord_tables.specs.Attempts.{open_tids}
 use Rattle.coord_tables.specs.Stages.{AreStagesOf, HasTicketsOf, IsStageOf, no_tickets, noted_below, noted_one, noting, stage_tickets, ticket_at}

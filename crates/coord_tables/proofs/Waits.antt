@@ -13,17 +13,16 @@ use Rattle.fed_rules.specs.CoordPast.{CoordHappening, CoordPast, Standing, Undec
 use Rattle.global_exec.specs.Counted.{after_did, counts}
 use Rattle.global_exec.specs.Live.{Live, live_of}
 use Rattle.global_exec.specs.Pasts.{IsAmong}
-use Rattle.global_exec.proofs.Keeps.{did_same}
-use Rattle.global_exec.proofs.ExecPasts.{wait_of_past}
+use Rattle.global_exec.proofs.ForCallers.{did_same, wait_of_past}
 use Rattle.protocol_table.specs.declared.known.Known.{Known}
 use Rattle.protocol_table.specs.Agreement.{IsKnownAs}
 use Rattle.protocol_table.specs.Attempts.{known_of}
-use Rattle.protocol_table.proofs.Going.{undecided_stay}
+use Rattle.protocol_table.proofs.ForCallers.{undecided_stay}
 use Rattle.coord_tables.specs.declared.tables.Tables.{Tables}
 use Rattle.fed_rules.specs.CoordRecords.{commits}
 use Rattle.fed_rules.specs.CoordPast.{records}
 use Rattle.ticket_graph.specs.Graph.{AreHeld, StandsFor}
-use Rattle.rules_laws.proofs.CoordPasts.{counts_open}
+use Rattle.rules_laws.proofs.ForCallers.{counts_open}
 use Rattle.global_exec.specs.Agreement.{IsOfPast}
 use Rattle.coord_tables.specs.Attempts.{IsLiveAs}
 use Rattle.coord_tables.specs.Trees.{committed_in}

@@ -5,7 +5,7 @@ use Rattle.mdb_base.specs.declared.names.Tid.{Tid}
 use Rattle.mdb_base.specs.declared.names.Tx.{Tx}
 use Rattle.mdb_base.specs.Words.{Among}
 use Rattle.order_laws.specs.Chains.{In}
-use Rattle.order_laws.proofs.Members.{in_each}
+use Rattle.order_laws.proofs.ForCallers.{in_each}
 use Rattle.presumptions.specs.declared.Participant.{Participant}
 use Rattle.fed_rules.specs.declared.commands.Command.{Command}
 use Rattle.fed_rules.specs.declared.records.CoordRecord.{CoordRecord}
@@ -21,15 +21,13 @@ use Rattle.fed_rules.specs.SiteRecords.{Home}
 use Rattle.fed_rules.specs.SiteSums.{site_sum}
 use Rattle.fed_rules.specs.Story.{coord_past, past_of, story_of}
 use Rattle.fed_rules.specs.Usable.{IsAnyOf, IsAttemptOf, IsLocalOf, coord_read, counted}
-use Rattle.coord_laws.proofs.OpenedPasts.{in_begun, with_more, with_own}
-use Rattle.coord_laws.proofs.Past.{recorded_begun}
-use Rattle.commit_laws.proofs.Agreed.{begun_global}
-use Rattle.commit_laws.proofs.Links.{home-again, not-both, story_goes_on, story_made}
-use Rattle.federation_laws.proofs.LocalStories.{local-record}
-use Rattle.site_history.proofs.SitesOfStories.{of_events}
+use Rattle.coord_laws.proofs.ForCallers.{in_begun, recorded_begun, with_more, with_own}
+use Rattle.commit_laws.proofs.ForCallers.{begun_global, home-again, not-both, story_goes_on, story_made}
+use Rattle.federation_laws.proofs.ForCallers.{local-record}
+use Rattle.site_history.proofs.ForCallers.{of_events}
 use Rattle.disk_laws.specs.Left.{LocalsAreNotNamed}
 use Rattle.disk_laws.proofs.CoordLeft.{read_here}
-use Rattle.disk_laws.proofs.ReadRecords.{IsRead, Whole, Behind}
+use Rattle.disk_laws.proofs.ReadRecords.{IsRead, Whole, BehindSum}
 use Rattle.disk_laws.proofs.CoordRead.{any_read}
 use Rattle.disk_laws.proofs.CoordRead as Read
 use Rattle.disk_laws.proofs.SiteOnce.{Known, local_at, local_read_from, over, pasts_known}
@@ -49,7 +47,7 @@ attempt_at tx (r ∷ rs) (inr m) = let a = attempt_at tx rs m in (a.0, a.1, inr 
 
 any_of : (protocols : List Participant) (g : Tid) (rs ks : List CoordRecord) → IsRead protocols rs ks → Among (IsAnyOf g) ks → Among (IsAnyOf g) rs
 any_of protocols g rs ks (Whole e) m = subst (Among (IsAnyOf g)) e m
-any_of protocols g rs ks (Behind newer before e f) m =
+any_of protocols g rs ks (BehindSum newer before e f) m =
     subst (Among (IsAnyOf g)) (sym e) (Read.over protocols (IsAnyOf g) newer before (λ c. c) (any_read protocols g before) (subst (Among (IsAnyOf g)) f m))
 
 any_recorded : (g : Tid) (rs : List CoordRecord) → Among (IsAnyOf g) rs → In g (recorded rs)

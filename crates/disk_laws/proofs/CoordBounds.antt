@@ -6,7 +6,7 @@ use Rattle.mdb_base.specs.declared.names.Tid.{Tid}
 use Rattle.mdb_base.specs.Words.{Among, Each}
 use Rattle.order_laws.specs.Chains.{In}
 use Rattle.order_laws.specs.Tickets.{Ticketed}
-use Rattle.order_laws.proofs.Lists.{each_at, each_from}
+use Rattle.order_laws.proofs.ForCallers.{each_at, each_from}
 use Rattle.fed_rules.specs.declared.commands.Command.{Command}
 use Rattle.fed_rules.specs.declared.messages.FromSite.TheVariants as From
 use Rattle.fed_rules.specs.declared.records.CoordRecord.{CoordRecord}
@@ -23,18 +23,15 @@ use Rattle.fed_rules.specs.SitePast as Site
 use Rattle.fed_rules.specs.SiteRecords.{Home}
 use Rattle.fed_rules.specs.Story.{coord_past, past_of, sent_from, story_of}
 use Rattle.fed_rules.specs.Usable.{IsCoordBelow, IsTicketBelow}
-use Rattle.commit_laws.proofs.Links.{home-again, its-site, story_made}
-use Rattle.coord_laws.proofs.OneEach.{committed_tid}
-use Rattle.federation_laws.proofs.Agreement.{IsSaid}
-use Rattle.federation_laws.proofs.CommitOnce.{node-tid, votes-sent}
-use Rattle.federation_laws.proofs.Declared.{undeclared}
-use Rattle.federation_laws.proofs.StoryGlobals.{declared-program, story-agrees, story-holds}
-use Rattle.site_history.proofs.SitesOfStories.{of_events}
+use Rattle.commit_laws.proofs.ForCallers.{home-again, its-site, story_made}
+use Rattle.coord_laws.proofs.ForCallers.{committed_tid}
+use Rattle.federation_laws.proofs.ForCallers.{IsSaid, declared-program, node-tid, story-agrees, story-holds, undeclared, votes-sent}
+use Rattle.site_history.proofs.ForCallers.{of_events}
 use Rattle.coord_laws.specs.Sums.{AreCoordSums}
 use Rattle.disk_laws.specs.Left.{CoordinatorsAreBelow, OfShortCoordinators}
 use Rattle.disk_laws.proofs.CoordLeft.{each_standing, stands, sums_hold}
 use Rattle.disk_laws.proofs.ReadRecords.{Commits, committed_from}
-use Rattle.rules_laws.proofs.PastLengths.{past_short}
+use Rattle.rules_laws.proofs.ForCallers.{past_short}
 use Rattle.disk_laws.proofs.SiteBounds.{AreBelow, IsBelow, pasts_below}
 
 -- a record whose tickets are those of committed attempts

@@ -1,8 +1,8 @@
 -- The participants that the coordinator's records name stand by rising site, as the format has them.
 use Rattle.std.proofs.Common.{◌≡◌, List, [], ◌∷◌, sym, subst, inl, inr}
 use Rattle.mdb_base.specs.Words.{Among, Each}
-use Rattle.mdb_base.proofs.NameLaws.{same_tid-refl}
-use Rattle.order_laws.proofs.Lists.{each_from}
+use Rattle.mdb_base.proofs.ForCallers.{same_tid-refl}
+use Rattle.order_laws.proofs.ForCallers.{each_from}
 use Rattle.presumptions.specs.declared.Participant.{Participant}
 use Rattle.fed_rules.specs.declared.events.CoordEvent.{CoordEvent}
 use Rattle.fed_rules.specs.declared.records.CoordRecord.{CoordRecord}
@@ -14,11 +14,10 @@ use Rattle.fed_rules.specs.CoordSums.{open_with}
 use Rattle.fed_rules.specs.Scenarios.{policy, protocols}
 use Rattle.fed_rules.specs.Story as Story
 use Rattle.fed_rules.specs.Story.{story_of}
-use Rattle.commit_laws.proofs.Links.{story_made}
-use Rattle.coord_laws.proofs.Facts.{Wrote}
+use Rattle.commit_laws.proofs.ForCallers.{story_made}
+use Rattle.coord_laws.proofs.ForCallers.{Wrote, those_listed}
 use Rattle.coord_laws.specs.FoundCoordinators.{MembersRise, RiseBySite}
 use Rattle.coord_laws.specs.Sums.{AreCoordSums}
-use Rattle.coord_laws.proofs.UsableCoordinators.{those_listed}
 use Rattle.disk_laws.specs.Left.{MembersStandInOrder, OfCoordinators}
 use Rattle.disk_laws.proofs.CoordLeft.{each_standing, past_each, stands, sums_hold, tid_of}
 use Rattle.disk_laws.proofs.ReadRecords.{Opens, open_from}

@@ -4,10 +4,9 @@ use Rattle.mdb_base.specs.declared.names.SiteTicket.{SiteTicket}
 use Rattle.mdb_base.specs.declared.names.Tid.{Tid}
 use Rattle.mdb_base.specs.declared.names.Tx.{Tx}
 use Rattle.mdb_base.specs.Words.{Among, Each}
-use Rattle.mdb_base.proofs.ListLaws.{append_each, each_append, each_map}
-use Rattle.mdb_base.proofs.NameLaws.{same_tid-refl}
+use Rattle.mdb_base.proofs.ForCallers.{append_each, each_append, each_map, same_tid-refl}
 use Rattle.order_laws.specs.Chains.{In, Distinct}
-use Rattle.order_laws.proofs.Lists.{each_from}
+use Rattle.order_laws.proofs.ForCallers.{each_from}
 use Rattle.presumptions.specs.declared.Participant.{Participant}
 use Rattle.fed_rules.specs.declared.commands.Command.{Command}
 use Rattle.fed_rules.specs.declared.events.CoordEvent.{CoordEvent}
@@ -27,16 +26,10 @@ use Rattle.fed_rules.specs.Story as Story
 use Rattle.fed_rules.specs.Story.{story_of}
 use Rattle.fed_rules.specs.Usable.{CommitOnce, IsCommitOf, IsDeclaredAt, NamesSites, coord_read}
 use Rattle.coord_laws.specs.Pasts.{IsMadeByEvents, IsNextLine}
-use Rattle.coord_laws.proofs.Facts.{Wrote, WroteAll}
-use Rattle.coord_laws.proofs.OneEach.{committed_tid, tids_of}
-use Rattle.coord_laws.proofs.Past.{any_member, commits_close_none, commits_once, going_on, next_turn, participants_declared, past_sound}
-use Rattle.coord_laws.proofs.Sound.{kept_from}
-use Rattle.commit_laws.proofs.Links.{story_made}
-use Rattle.federation_laws.proofs.OnceGlobal.{global-once}
+use Rattle.coord_laws.proofs.ForCallers.{IsFine, IsTrimmed, Wrote, WroteAll, any_member, commits_close_none, commits_once, committed_tid, coordinators_sum, going_on, kept_from, next_turn, participants_declared, past_fine, past_sound, past_tidy, standing_all, standing_trimmed, sums_front, tids_of}
+use Rattle.commit_laws.proofs.ForCallers.{story_made}
+use Rattle.federation_laws.proofs.ForCallers.{global-once}
 use Rattle.coord_laws.specs.Sums.{AreCoordSums}
-use Rattle.coord_laws.proofs.CoordPasts.{coordinators_sum, sums_front}
-use Rattle.coord_laws.proofs.CoordRestarts.{past_tidy}
-use Rattle.coord_laws.proofs.CoordTrims.{IsTrimmed, IsFine, past_fine, standing_all, standing_trimmed}
 use Rattle.disk_laws.specs.Left.{OfCoordinators, CommitsCloseNoCycle, RecordsStandInOrder, TransactionsCommitOnce, NamedSitesAreDeclared}
 use Rattle.disk_laws.proofs.CoordOrder.{past_settled}
 use Rattle.disk_laws.proofs.ReadRecords.{Commits, IsRead, Opens, among_those, committed_from, open_from}

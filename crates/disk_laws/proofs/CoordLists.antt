@@ -4,9 +4,8 @@ use Rattle.std.proofs.Common.{◌≡◌, Bool, true, false, cond, not, ◌&&◌,
 use Rattle.mdb_base.specs.declared.names.Tid.{Tid}
 use Rattle.mdb_base.specs.Names.{same_tid, tid_before}
 use Rattle.mdb_base.specs.Words.{Among, Each, inserted, some_of, those}
-use Rattle.mdb_base.proofs.ListLaws.{each_filtered, each_inserted, each_map}
-use Rattle.mdb_base.proofs.NameLaws.{same_tid-equal, same_tid-refl}
-use Rattle.order_laws.proofs.Lists.{among_weaker, bool_is}
+use Rattle.mdb_base.proofs.ForCallers.{each_filtered, each_inserted, each_map, same_tid-equal, same_tid-refl}
+use Rattle.order_laws.proofs.ForCallers.{among_weaker, bool_is}
 use Rattle.presumptions.specs.declared.Participant.{Participant}
 use Rattle.fed_rules.specs.declared.commands.Command.{Command}
 use Rattle.fed_rules.specs.declared.records.CoordRecord.{CoordRecord}
@@ -23,11 +22,9 @@ use Rattle.fed_rules.specs.Scenarios.{policy, protocols}
 use Rattle.fed_rules.specs.Story as Story
 use Rattle.fed_rules.specs.Story.{story_of}
 use Rattle.fed_rules.specs.Usable.{AreSumsOfOpen, CommitOnce, CoordSumsFit, IsCommitOf, IsDecidedOf, IsSumOfOpen, RiseBy, StandInOrder, coord_read}
-use Rattle.commit_laws.proofs.Links.{story_made}
+use Rattle.commit_laws.proofs.ForCallers.{story_made}
 use Rattle.coord_laws.specs.Sums.{AreCoordSums}
-use Rattle.coord_laws.proofs.CoordRead.{none_commit, open_rise, order_behind, sum_read, decided_any}
-use Rattle.coord_laws.proofs.CoordRestarts.{committed_is}
-use Rattle.coord_laws.proofs.CoordTold.{rises}
+use Rattle.coord_laws.proofs.ForCallers.{committed_is, decided_any, none_commit, open_rise, order_behind, rises, sum_read}
 use Rattle.disk_laws.specs.Left.{OfCoordinators, SumsAreOfOpen, CoordinatorsSumsFit}
 use Rattle.disk_laws.proofs.CoordLeft.{From, All, Standing, commit_once, each_standing, stands, sums_hold}
 use Rattle.disk_laws.proofs.CoordOrder.{past_settled}

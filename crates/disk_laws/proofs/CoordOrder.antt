@@ -3,9 +3,8 @@ use Rattle.std.proofs.Common.{◌≡◌, ◌≤◌, ◌⊎◌, suc, Bool, true, 
 use Rattle.mdb_base.specs.declared.names.Tid.{Tid}
 use Rattle.mdb_base.specs.Names.{same_tid}
 use Rattle.mdb_base.specs.Words.{Among, or_else, those}
-use Rattle.mdb_base.proofs.EachLaws.{among_split}
-use Rattle.order_laws.proofs.Alike.{same_of}
-use Rattle.order_laws.proofs.Joined.{each_not}
+use Rattle.mdb_base.proofs.ForCallers.{among_split}
+use Rattle.order_laws.proofs.ForCallers.{each_not, same_of}
 use Rattle.presumptions.specs.declared.Decision.{Decision}
 use Rattle.presumptions.specs.declared.Decision.TheVariants as Decided
 use Rattle.presumptions.specs.declared.Participant.{Participant}
@@ -17,18 +16,11 @@ use Rattle.fed_rules.specs.CoordPast.{CoordHappening, CoordPast, records, standi
 use Rattle.fed_rules.specs.CoordRecords.{acking, class_of, ends_at_once, has_commit, has_end, is_kept, is_nobody, named, outcome, required, required_of, ticketed}
 use Rattle.fed_rules.specs.Policies.{Policy}
 use Rattle.fed_rules.specs.Usable.{IsAnyOf, IsDecidedOf, IsEndOf}
-use Rattle.rules_laws.proofs.Disks.{appended}
+use Rattle.rules_laws.proofs.ForCallers.{appended}
 use Rattle.fed_rules.specs.Found.{Journal}
 use Rattle.fed_rules.specs.Reopened.{opened_coordinator}
 use Rattle.coord_laws.specs.Pasts.{IsGoingOn, IsMadeByEvents, IsNextLine}
-use Rattle.coord_laws.proofs.Facts.{is_undecided, kept_standing, IsOpen, IsUnmarked, Wrote, WroteAll, Same, Starts, Decides, Forgets, Restarts}
-use Rattle.coord_laws.proofs.Lines.{Kept, Stood, Stopped, Through}
-use Rattle.coord_laws.proofs.Past.{any_member, going_on, next_turn, past_sound}
-use Rattle.coord_laws.proofs.RecordLists.{named_more, named_some, among_end}
-use Rattle.coord_laws.proofs.Sound.{CoordSound, IsMark, decided_not_open, end_mark, kept_from, kept_not_open}
-use Rattle.coord_laws.proofs.Turns.{Turn, fresh}
-use Rattle.coord_laws.proofs.CoordRestarts.{none_required}
-use Rattle.coord_laws.proofs.CoordTrims.{line_fine}
+use Rattle.coord_laws.proofs.ForCallers.{CoordSound, Decides, Forgets, IsMark, IsOpen, IsUnmarked, Kept, Restarts, Same, Starts, Stood, Stopped, Through, Turn, Wrote, WroteAll, among_end, any_member, decided_not_open, end_mark, fresh, going_on, is_undecided, kept_from, kept_not_open, kept_standing, line_fine, named_more, named_some, next_turn, none_required, past_sound}
 
 -- an Abort of the attempt
 abbrev pub IsAbortOf : Tid → CoordRecord → Type 0

@@ -4,13 +4,10 @@ use Rattle.mdb_base.specs.declared.names.Tid.{Tid}
 use Rattle.mdb_base.specs.declared.names.Tx.{Tx}
 use Rattle.mdb_base.specs.Names.{same_tid, tid_before}
 use Rattle.mdb_base.specs.Words.{Among, how_many, inserted, or_else, some_of, those}
-use Rattle.mdb_base.proofs.NameLaws.{same_tid-refl}
+use Rattle.mdb_base.proofs.ForCallers.{among_append, among_behind, among_split, each_map, same_tid-refl}
 use Rattle.order_laws.specs.Chains.{In}
 use Rattle.order_laws.specs.Tickets.{HasNoCycle, IsEdge, Ticketed}
-use Rattle.order_laws.proofs.Alike.{same_of}
-use Rattle.order_laws.proofs.Lists.{among_map, among_weaker}
-use Rattle.mdb_base.proofs.ListLaws.{each_map}
-use Rattle.mdb_base.proofs.EachLaws.{among_append, among_behind, among_split}
+use Rattle.order_laws.proofs.ForCallers.{among_map, among_weaker, same_of}
 use Rattle.presumptions.specs.declared.Participant.{Participant}
 use Rattle.fed_rules.specs.declared.records.CoordRecord.{CoordRecord}
 use Rattle.fed_rules.specs.declared.records.CoordRecord.TheVariants.{Initiation, Commit, Abort, End, Checkpoint}
@@ -21,13 +18,11 @@ use Rattle.fed_rules.specs.CoordRecords.{class_of, commits, ends_at_once, has_co
 use Rattle.fed_rules.specs.CoordSums.{committed_with, coord_sum, open_with}
 use Rattle.fed_rules.specs.Reopened.{commit_read, coord_sum_read, end_read, initiation_read, is_open_in}
 use Rattle.fed_rules.specs.Usable.{CommitOnce, IsAnyOf, IsCommitOf, IsDecidedOf, IsEndOf, StandInOrder, coord_read}
-use Rattle.coord_laws.proofs.RecordLists.{commit_named, named_some}
+use Rattle.coord_laws.proofs.ForCallers.{IsTidy, Once, commit_named, committed_is, found_or_not, is_of, left_open, named_some, once_open, open_is, unless_ended}
 use Rattle.coord_laws.specs.Sums.{AreCoordSums}
-use Rattle.coord_laws.proofs.CoordRestarts.{committed_is}
-use Rattle.coord_laws.proofs.CoordTold.{IsTidy, Once, found_or_not, is_of, left_open, once_open, open_is, unless_ended}
 use Rattle.coord_laws.specs.CoordRestarts.{open_in}
 use Rattle.disk_laws.proofs.CoordOrder.{IsOrderly}
-use Rattle.disk_laws.proofs.ReadRecords.{Behind, Commits, IsRead, Opens, Whole, among_insert, among_read, among_those, committed_from, open_from, read_all, read_trimmed, tested}
+use Rattle.disk_laws.proofs.ReadRecords.{BehindSum, Commits, IsRead, Opens, Whole, among_insert, among_read, among_those, committed_from, open_from, read_all, read_trimmed, tested}
 
 -- ---- no record is read that wasn't there, but for an Initiation in place of an Abort, and an End of a commit that is forgotten at once
 
@@ -346,7 +341,7 @@ module _ (protocols : List Participant) (before : List CoordRecord) where
           end_in (End u ∷ rs) h = by_test (same_tid u t) refl h (end_in rs)
             where
               by_test : (b : Bool) → same_tid u t ≡ b → cond b true (has_end rs t) ≡ true → (has_end rs t ≡ true → Among (IsEndOf t) rs) → Among (IsEndOf t) (End u ∷ rs)
-              by_test true q h k = inl (Rattle.mdb_base.proofs.NameLaws.same_tid-equal u t q)
+              by_test true q h k = inl (Rattle.mdb_base.proofs.ForCallers.same_tid-equal u t q)
               by_test false q h k = inr (k h)
           end_in (Initiation u ms ∷ rs) h = inr (end_in rs h)
           end_in (Commit u ks ∷ rs) h = inr (end_in rs h)
@@ -514,18 +509,18 @@ fewer_cycles xs ys sub free t es c =
 pub read_order : (protocols : List Participant) (rs ks : List CoordRecord) → IsRead protocols rs ks → CommitOnce rs → ((g : Tid) → IsTidy protocols g rs)
     → ((g : Tid) → IsOrderly protocols g rs) → StandInOrder ks
 read_order protocols rs ks (Whole e) once tidy o = subst StandInOrder (sym e) (stand_all protocols rs o)
-read_order protocols rs ks (Behind newer before e f) once tidy o =
+read_order protocols rs ks (BehindSum newer before e f) once tidy o =
     subst StandInOrder (sym f)
     (stand_short protocols before newer (once_front newer (Checkpoint (coord_sum protocols before) ∷ before) (subst CommitOnce e once))
     (λ g. subst (IsTidy protocols g) e (tidy g)) (λ g. subst (IsOrderly protocols g) e (o g)))
 
 pub read_once : (protocols : List Participant) (rs ks : List CoordRecord) → IsRead protocols rs ks → CommitOnce rs → CommitOnce ks
 read_once protocols rs ks (Whole e) once = subst CommitOnce (sym e) once
-read_once protocols rs ks (Behind newer before e f) once = subst CommitOnce (sym f) (once_short protocols newer before (subst CommitOnce e once))
+read_once protocols rs ks (BehindSum newer before e f) once = subst CommitOnce (sym f) (once_short protocols newer before (subst CommitOnce e once))
 
 pub read_acyclic : (protocols : List Participant) (rs ks : List CoordRecord) → IsRead protocols rs ks → HasNoCycle (commits rs) → HasNoCycle (commits ks)
 read_acyclic protocols rs ks (Whole e) free = subst (λ xs. HasNoCycle (commits xs)) (sym e) free
-read_acyclic protocols rs ks (Behind newer before e f) free =
+read_acyclic protocols rs ks (BehindSum newer before e f) free =
     subst (λ xs. HasNoCycle (commits xs)) (sym f)
     (fewer_cycles _ (commits (newer ++ Checkpoint (coord_sum protocols before) ∷ before))
     (λ a i. commit_in a (newer ++ Checkpoint (coord_sum protocols before) ∷ before)
@@ -539,5 +534,5 @@ is_whole protocols rs js s e = Whole (ap coord_read e ∙ read_all protocols rs 
 pub is_behind : (protocols : List Participant) (rs js newer before : List CoordRecord) (sum : CoordSum) → sum ≡ coord_sum protocols before
     → rs ≡ newer ++ Checkpoint sum ∷ before → js ≡ newer ++ Checkpoint sum ∷ [] → IsRead protocols rs (coord_read js)
 is_behind protocols rs js newer before sum is e f =
-    Behind newer before (e ∙ ap (λ z. newer ++ Checkpoint z ∷ before) is)
+    BehindSum newer before (e ∙ ap (λ z. newer ++ Checkpoint z ∷ before) is)
     (ap coord_read f ∙ read_trimmed newer sum ∙ ap (λ z. newer ++ Checkpoint z ∷ coord_sum_read z) is)

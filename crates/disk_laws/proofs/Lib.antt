@@ -1,23 +1,24 @@
-pub mod CoordOrder
-pub mod ReadRecords
-pub mod CoordRead
-pub mod CoordLeft
-pub mod CoordLists
-pub mod Rises
-pub mod SiteRead
-pub mod SiteLeft
-pub mod SiteWalk
-pub mod SiteWritten
-pub mod SiteLists
-pub mod SiteOnce
-pub mod SiteFits
-pub mod SiteTickets
-pub mod SiteNumbers
-pub mod SiteDrawers
-pub mod SiteBounds
-pub mod CoordBounds
-pub mod AllRules
-pub mod CoordFormat
-pub mod SiteFormat
-pub mod Apart
-pub mod Named
+pub mod ForCallers
+mod CoordOrder
+mod ReadRecords
+mod CoordRead
+mod CoordLeft
+mod CoordLists
+mod Rises
+mod SiteRead
+mod SiteLeft
+mod SiteWalk
+mod SiteWritten
+mod SiteLists
+mod SiteOnce
+mod SiteFits
+mod SiteTickets
+mod SiteNumbers
+mod SiteDrawers
+mod SiteBounds
+mod CoordBounds
+mod AllRules
+mod CoordFormat
+mod SiteFormat
+mod Apart
+mod Named

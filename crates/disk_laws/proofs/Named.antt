@@ -2,8 +2,8 @@
 use Rattle.std.proofs.Common.{◌≡◌, List, [], ◌∷◌, ◌++◌, not, map, subst, inl, inr}
 use Rattle.mdb_base.specs.declared.names.Tx.{Tx}
 use Rattle.mdb_base.specs.Words.{Among, those}
-use Rattle.mdb_base.proofs.EachLaws.{among_append, among_behind}
-use Rattle.order_laws.proofs.Lists.{among_weaker, map_among}
+use Rattle.mdb_base.proofs.ForCallers.{among_append, among_behind}
+use Rattle.order_laws.proofs.ForCallers.{among_weaker, map_among}
 use Rattle.presumptions.specs.declared.Participant.{Participant}
 use Rattle.fed_rules.specs.declared.records.CoordRecord.{CoordRecord}
 use Rattle.fed_rules.specs.declared.records.CoordRecord.TheVariants.{Initiation, Commit, Abort, End, Checkpoint}

@@ -3,8 +3,8 @@ use Rattle.std.proofs.Common.{◌≡◌, ◌⊎◌, Bool, true, false, cond, not
 use Rattle.mdb_base.specs.declared.names.Tid.{Tid}
 use Rattle.mdb_base.specs.Names.{same_tid}
 use Rattle.mdb_base.specs.Words.{Among, inserted, some_of, those}
-use Rattle.order_laws.proofs.Lists.{among_map}
-use Rattle.mdb_base.proofs.EachLaws.{among_split}
+use Rattle.order_laws.proofs.ForCallers.{among_map}
+use Rattle.mdb_base.proofs.ForCallers.{among_split}
 use Rattle.presumptions.specs.declared.Participant.{Participant}
 use Rattle.fed_rules.specs.declared.records.CoordRecord.{CoordRecord}
 use Rattle.fed_rules.specs.declared.records.CoordRecord.TheVariants.{Initiation, Commit, Abort, End, Checkpoint}
@@ -16,8 +16,7 @@ use Rattle.fed_rules.specs.CoordSums.{also_open, committed_with, coord_sum, open
 use Rattle.fed_rules.specs.Reopened.{commit_read, coord_sum_read, end_read, initiation_read, is_open_in}
 use Rattle.fed_rules.specs.Usable.{coord_read}
 use Rattle.coord_laws.specs.Sums.{AreCoordSums}
-use Rattle.coord_laws.proofs.CoordRestarts.{among_inserted}
-use Rattle.coord_laws.proofs.CoordTold.{rises}
+use Rattle.coord_laws.proofs.ForCallers.{among_inserted, rises}
 
 pub read_all : (protocols : List Participant) (rs : List CoordRecord) → AreCoordSums protocols rs → coord_read rs ≡ rs
 read_all protocols [] s = refl
@@ -40,7 +39,7 @@ read_trimmed (End t ∷ newer) sum = ap (λ xs. End t ∷ xs) (read_trimmed newe
 -- these are the records, or those behind a Checkpoint with what it is read as
 pub data IsRead (protocols : List Participant) (rs ks : List CoordRecord) : Type 0 where
   Whole : ks ≡ rs → IsRead protocols rs ks
-  Behind : (newer before : List CoordRecord) → rs ≡ newer ++ Checkpoint (coord_sum protocols before) ∷ before
+  BehindSum : (newer before : List CoordRecord) → rs ≡ newer ++ Checkpoint (coord_sum protocols before) ∷ before
       → ks ≡ newer ++ Checkpoint (coord_sum protocols before) ∷ coord_sum_read (coord_sum protocols before) → IsRead protocols rs ks
 
 -- ---- lists

@@ -3,9 +3,8 @@ use Rattle.std.proofs.Common.{◌≡◌, Bool, true, false, cond, List, [], ◌�
 use Rattle.mdb_base.specs.declared.names.Tid.{Tid}
 use Rattle.mdb_base.specs.Names.{same_tid, tid_before}
 use Rattle.mdb_base.specs.Words.{Each, inserted}
-use Rattle.mdb_base.proofs.ListLaws.{each_inserted, each_map}
-use Rattle.mdb_base.proofs.NameLaws.{before_other}
-use Rattle.order_laws.proofs.Names.{ranks_tids}
+use Rattle.mdb_base.proofs.ForCallers.{before_other, each_inserted, each_map}
+use Rattle.order_laws.proofs.ForCallers.{ranks_tids}
 use Rattle.fed_rules.specs.Usable.{RiseBy}
 
 module _ {A : Type 0} (tid_of : A → Tid) where

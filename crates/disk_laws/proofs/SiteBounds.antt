@@ -4,8 +4,8 @@ use Rattle.std.specs.Prelude.{nat_le}
 use Rattle.mdb_base.specs.declared.names.Tid.{Tid}
 use Rattle.mdb_base.specs.declared.names.Tx.{Tx}
 use Rattle.mdb_base.specs.Words.{Each, when}
-use Rattle.mdb_base.proofs.ListLaws.{each_map}
-use Rattle.order_laws.proofs.Lists.{each_at, each_from}
+use Rattle.mdb_base.proofs.ForCallers.{each_map}
+use Rattle.order_laws.proofs.ForCallers.{each_at, each_from}
 use Rattle.fed_rules.specs.declared.answers.Answer.TheVariants as Say
 use Rattle.fed_rules.specs.declared.events.SiteEvent.{SiteEvent}
 use Rattle.fed_rules.specs.declared.events.SiteEvent.TheVariants as Ev
@@ -24,28 +24,15 @@ use Rattle.fed_rules.specs.SiteRecords.{Held, Home, doubts, epoch_of, last_numbe
 use Rattle.fed_rules.specs.SiteSums.{site_sum}
 use Rattle.fed_rules.specs.Story.{past_of, story_of}
 use Rattle.fed_rules.specs.Usable as Usable
-use Rattle.engine_laws.proofs.Counted.{counted}
-use Rattle.engine_laws.proofs.Numbers.{counter_lines, drawn_next, draws}
-use Rattle.rules_laws.proofs.PastLengths.{past_short}
+use Rattle.engine_laws.proofs.ForCallers.{counted, counter_lines, drawn_next, draws, settling, ticket_is_next}
+use Rattle.rules_laws.proofs.ForCallers.{epoch_same, past_short}
 use Rattle.site_history.specs.Events.{IsFresh, IsSorted}
 use Rattle.site_history.specs.SiteOrders.{OfSortedEvents}
-use Rattle.site_history.proofs.Agreement.{IsLiveHere}
-use Rattle.site_history.proofs.Histories.{no_local_doubt}
-use Rattle.site_history.proofs.Moves.{IsCalm, JustSyncs, Moves, move_answered, rests, begins_local, begins_work, goes_on, commits_local, prepares_run, settles_held, checks_sum}
-use Rattle.site_history.proofs.Records.{doubt_in, record_of}
-use Rattle.site_history.proofs.RightLines.{good_answered, is_back}
-use Rattle.site_history.proofs.SitesOfStories.{of_events}
-use Rattle.site_history.proofs.Starts.{EachAppend, append_take, each_after}
-use Rattle.site_history.proofs.WellKept.{IsWellKept, well_past}
+use Rattle.site_history.proofs.ForCallers.{EachAppend, IsCalm, IsLiveHere, IsWellKept, JustSyncs, Moves, append_take, begins_local, begins_work, checks_sum, commits_local, doubt_in, doubts_are, each_after, goes_on, good_answered, is_back, move_answered, no_local_doubt, of_events, pasts_summed, prepares_run, record_of, rests, settles_held, well_past}
 use Rattle.site_history.specs.Sums.{AreSums}
-use Rattle.site_history.proofs.Doubtful.{doubts_are}
-use Rattle.site_history.proofs.SummedPasts.{pasts_summed}
 use Rattle.disk_laws.specs.Left.{IsSome, IsSomeHeld, OfShortSites, SitesAreBelow}
 use Rattle.disk_laws.proofs.SiteLeft.{counts, each_counted}
 use Rattle.disk_laws.proofs.SiteNumbers.{leave_numbers}
-use Rattle.engine_laws.proofs.SealedTickets.{ticket_is_next}
-use Rattle.engine_laws.proofs.Keeps.{settling}
-use Rattle.rules_laws.proofs.SiteRecords.{epoch_same}
 
 -- the numbers and the ticket of a record are at most this one, and an epoch is at most one more
 abbrev pub IsBelow : ℕ → SiteRecord → Type 0

@@ -3,8 +3,7 @@ use Rattle.std.proofs.Common.{◌≡◌, ℕ, ◌<◌, ◌≤◌, Bool, cond, So
 use Rattle.mdb_base.specs.declared.names.Tid.{Tid}
 use Rattle.mdb_base.specs.declared.names.Tx.{Tx}
 use Rattle.mdb_base.specs.Words.{Each}
-use Rattle.mdb_base.proofs.ListLaws.{each_map}
-use Rattle.mdb_base.proofs.OptionLaws.{some_parts}
+use Rattle.mdb_base.proofs.ForCallers.{each_map, some_parts}
 use Rattle.fed_rules.specs.declared.events.SiteEvent.{SiteEvent}
 use Rattle.fed_rules.specs.declared.records.SiteRecord.{SiteRecord}
 use Rattle.fed_rules.specs.declared.records.SiteRecord.TheVariants.{Setup, Start, Prepared, Ended, Local, Checkpoint}
@@ -18,23 +17,13 @@ use Rattle.fed_rules.specs.SiteRecords.{Held, Home, doubts, kept_held, last_numb
 use Rattle.fed_rules.specs.SiteSums.{site_sum}
 use Rattle.fed_rules.specs.Story.{past_of, story_of}
 use Rattle.fed_rules.specs.Usable.{numbers, OfFronts}
-use Rattle.engine_laws.proofs.Counted.{counter_grows}
-use Rattle.engine_laws.proofs.Drawers.{all_drew, drawer, drawer_keeps}
+use Rattle.engine_laws.proofs.ForCallers.{all_drew, counter_grows, drawer, drawer_keeps}
 use Rattle.order_laws.specs.Chains.{In, Distinct}
-use Rattle.order_laws.proofs.Lists.{each_at}
+use Rattle.order_laws.proofs.ForCallers.{each_at}
 use Rattle.site_history.specs.SiteOrders.{OfSortedEvents}
-use Rattle.site_history.proofs.Backed.{appended}
-use Rattle.site_history.proofs.Backing.{sealed_above}
-use Rattle.site_history.proofs.HistoryMoves.{synced_append}
-use Rattle.site_history.proofs.Moves.{Moves, rests, begins_local, begins_work, goes_on, commits_local, prepares_run, settles_held, checks_sum}
+use Rattle.site_history.proofs.ForCallers.{KeptByMoves, Moves, StartsWell, appended, begins_local, begins_work, bound_by, checks_sum, commits_local, doubt_in, doubts_are, foundation, goes_on, moves_keep, of_events, prepares_run, record_of, rests, sealed_above, settles_held, sites_serial, synced_append, well_past}
 use Rattle.site_history.specs.Records.{BindOnce, IsBound}
-use Rattle.site_history.proofs.Records.{bound_by, doubt_in, record_of}
-use Rattle.site_history.proofs.SitesOfStories.{of_events, sites_serial}
-use Rattle.site_history.proofs.MovedPasts.{KeptByMoves, moves_keep}
-use Rattle.site_history.proofs.WellKept.{StartsWell, well_past}
-use Rattle.site_history.proofs.Doubtful.{doubts_are}
 use Rattle.disk_laws.specs.Left.{OfSites, NumbersDiffer}
-use Rattle.site_history.proofs.Founded.{foundation}
 use Rattle.disk_laws.proofs.SiteLeft.{counts}
 use Rattle.disk_laws.proofs.SiteRead.{Counts, Whole, Behind}
 

@@ -11,20 +11,10 @@ use Rattle.fed_rules.specs.SiteRecords.{Held, Home, doubt_of, installs}
 use Rattle.fed_rules.specs.SiteSums.{site_sum, sum_with}
 use Rattle.fed_rules.specs.Story.{past_of, story_of}
 use Rattle.fed_rules.specs.Usable.{HaveSums, IsSumOfSome, IsWithin, SumsFit, home_of_first, read, OfFronts}
-use Rattle.site_history.proofs.Backed.{once_front}
-use Rattle.site_history.proofs.InOrderPasts.{order_behind}
+use Rattle.site_history.proofs.ForCallers.{SameDue, StartsWell, all_due, all_say, due_install, first_due, first_order, first_says, foundation, goes_on_in_order, of_events, once_front, order_behind, same_sum, says_sum, sites_serial, sums_behind}
 use Rattle.site_history.specs.Records.{BindOnce}
-use Rattle.site_history.proofs.Records.{due_install}
-use Rattle.site_history.proofs.SitesOfStories.{of_events, sites_serial}
-use Rattle.site_history.proofs.WellKept.{StartsWell}
 use Rattle.site_history.specs.Sums.{AreSums, ComeInOrder, HeldComes, StaysBelow}
-use Rattle.site_history.proofs.OpenedSums.{first_due, first_order, first_says}
-use Rattle.site_history.proofs.ReadSums.{says_sum}
-use Rattle.site_history.proofs.SameSays.{SameDue, all_due, all_say, same_sum}
-use Rattle.site_history.proofs.Whole.{goes_on}
 use Rattle.disk_laws.specs.Left.{OfSites, SitesSumsFit}
-use Rattle.site_history.proofs.Founded.{foundation}
-use Rattle.site_history.proofs.Journals.{sums_behind}
 use Rattle.disk_laws.proofs.SiteLeft.{first_founded, first_is, no_keys, within}
 use Rattle.disk_laws.proofs.SiteLists.{is_of_some}
 use Rattle.disk_laws.proofs.SiteOnce.{Known, pasts_known, starts_front}
@@ -106,9 +96,9 @@ module _ (home : Home) (before : List SiteRecord) (fits : IsWithin (site_sum hom
   read_says newer c =
       sym (same_sum again (newer ++ Checkpoint first ∷ read_as) (newer ++ Checkpoint first ∷ site_sum_read first)
       (all_say newer (Checkpoint first ∷ read_as) (Checkpoint first ∷ site_sum_read first) (first_says again (Checkpoint first))))
-      ∙ sym (goes_on again newer (Checkpoint first ∷ read_as) (order_again newer c))
+      ∙ sym (goes_on_in_order again newer (Checkpoint first ∷ read_as) (order_again newer c))
       ∙ ap (λ (s : SiteSum). sum_with s newer) (says_sum again first refl fits some)
-      ∙ goes_on home newer (Checkpoint first ∷ before) c
+      ∙ goes_on_in_order home newer (Checkpoint first ∷ before) c
 
   pub fit_behind : (newer : List SiteRecord) → AreSums home (newer ++ Checkpoint first ∷ before) → ComeInOrder (newer ++ Checkpoint first ∷ before)
       → SumsFit again (newer ++ Checkpoint first ∷ [])

@@ -6,8 +6,7 @@ use Rattle.mdb_base.specs.declared.names.Tx.{Tx}
 use Rattle.mdb_base.specs.Rising.{IsRising}
 use Rattle.mdb_base.specs.Words.{Among, Each}
 use Rattle.order_laws.specs.Chains.{In}
-use Rattle.order_laws.proofs.Lists.{each_at, each_from}
-use Rattle.order_laws.proofs.InLaws.{same_tids}
+use Rattle.order_laws.proofs.ForCallers.{each_at, each_from, same_tids}
 use Rattle.fed_rules.specs.declared.records.SiteRecord.{SiteRecord}
 use Rattle.fed_rules.specs.declared.records.SiteRecord.TheVariants.{Setup, Start, Prepared, Ended, Local, Checkpoint}
 use Rattle.fed_rules.specs.declared.sums.SiteSum.{SiteSum}
@@ -18,16 +17,10 @@ use Rattle.fed_rules.specs.SiteRecords.{Held, Home, doubts, ticket_owner}
 use Rattle.fed_rules.specs.SiteSums.{journal_sum, last_sum, locals_with, site_sum, sum_behind}
 use Rattle.fed_rules.specs.Usable.{home_of_first}
 use Rattle.site_history.specs.SiteOrders.{OfSortedEvents}
-use Rattle.site_history.proofs.Histories.{IsSortedRecord}
-use Rattle.site_history.proofs.Records.{doubt_in, record_of}
-use Rattle.site_history.proofs.Starts.{HasRisingWrites}
-use Rattle.site_history.proofs.WellKept.{well_past}
+use Rattle.site_history.proofs.ForCallers.{HasRisingWrites, IsSortedRecord, doubt_in, doubts_are, locals_from, pasts_summed, record_of, well_past}
 use Rattle.site_history.specs.FoundSites.{AreToldApart, IsOf, WritesRise}
 use Rattle.site_history.specs.Sums.{AreSums}
-use Rattle.site_history.proofs.Doubtful.{doubts_are}
-use Rattle.site_history.proofs.SummedPasts.{pasts_summed}
 use Rattle.disk_laws.proofs.SiteLeft.{counts, each_counted, first_founded, first_is}
-use Rattle.site_history.proofs.UsableSites.{locals_from}
 use Rattle.disk_laws.proofs.SiteOnce.{local_yes, owner_prepared, prepared_from, prepared_no}
 use Rattle.disk_laws.proofs.SiteRead.{Counts, Whole, Behind}
 

@@ -6,10 +6,9 @@ use Rattle.mdb_base.specs.declared.names.Tid.{Tid}
 use Rattle.mdb_base.specs.declared.rows.Put.{Put}
 use Rattle.mdb_base.specs.Names.{same_tid, tid_before}
 use Rattle.mdb_base.specs.Words.{Each, inserted}
-use Rattle.mdb_base.proofs.ListLaws.{append_each, each_all, each_append, each_map, each_of_map}
-use Rattle.mdb_base.proofs.NameLaws.{same_tid-refl}
+use Rattle.mdb_base.proofs.ForCallers.{append_each, each_all, each_append, each_map, each_of_map, same_tid-refl}
 use Rattle.order_laws.specs.Chains.{In, Distinct}
-use Rattle.order_laws.proofs.Lists.{each_at, each_from}
+use Rattle.order_laws.proofs.ForCallers.{each_at, each_from}
 use Rattle.presumptions.specs.declared.Decision.TheVariants as Decided
 use Rattle.fed_rules.specs.declared.records.SiteRecord.{SiteRecord}
 use Rattle.fed_rules.specs.declared.records.SiteRecord.TheVariants.{Setup, Start, Prepared, Ended, Local, Checkpoint}
@@ -22,22 +21,12 @@ use Rattle.fed_rules.specs.SitePast.{disk, journal, records}
 use Rattle.fed_rules.specs.SiteRecords.{Held, Home, Install, doubt_of, doubts, installs, kept_held, last_number, last_ticket, site_frame, start_of, ticket_owner}
 use Rattle.fed_rules.specs.SiteSums.{locals_with, site_sum}
 use Rattle.fed_rules.specs.Usable.{AreBehind, AreWithin, DoubtsApart, IsBehind, IsOfSite, IsWithin, KeepClear, LocalsOnTop, OfFronts, counted, home_of_first}
-use Rattle.engine_laws.proofs.Restored.{rows_apart}
-use Rattle.rules_laws.proofs.SiteRecords.{standing_all}
+use Rattle.engine_laws.proofs.ForCallers.{rows_apart}
+use Rattle.rules_laws.proofs.ForCallers.{standing_all}
 use Rattle.site_history.specs.SiteOrders.{OfSortedEvents}
-use Rattle.site_history.proofs.Fronts.{whole_of_fronts}
-use Rattle.site_history.proofs.Records.{due_install}
-use Rattle.site_history.proofs.SitesOfStories.{of_events}
-use Rattle.site_history.proofs.WellKept.{StartsWell, well_past}
+use Rattle.site_history.proofs.ForCallers.{AllFit, Begins, DoubtsFit, IsFounded, IsSummed, IsTrimmed, StartsWell, are_doubt, doubts_are, due_install, foundation, founded, of_events, orders_past, pasts_summed, standing_trimmed, sums_front, well_past, whole_of_fronts}
 use Rattle.site_history.specs.Sums.{AreSums, ComeInOrder, StaysBelow}
-use Rattle.site_history.proofs.Doubtful.{doubts_are}
-use Rattle.site_history.proofs.InOrder.{AllFit, DoubtsFit}
-use Rattle.site_history.proofs.InOrderPasts.{orders_past}
-use Rattle.site_history.proofs.Journals.{Begins, IsSummed, IsTrimmed, standing_trimmed, sums_front}
-use Rattle.site_history.proofs.SummedPasts.{pasts_summed}
 use Rattle.disk_laws.specs.Left.{OfSites, DoubtsStandInOrder, LocalsStandInOrder, SumsAreWithin, IsFirstOfSite}
-use Rattle.site_history.proofs.Founded.{IsFounded, foundation, founded}
-use Rattle.site_history.proofs.Doubted.{are_doubt}
 use Rattle.disk_laws.proofs.SiteWalk.{AreWritten, written_at, written_past}
 use Rattle.disk_laws.proofs.SiteRead.{Counts, Whole, Behind, count_behind, count_founded, counts_as, doubts_read, installs_read}
 

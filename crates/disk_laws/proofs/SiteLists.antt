@@ -5,8 +5,8 @@ use Rattle.std.proofs.lemmas.Bool.{ltb-false, ltb-true}
 use Rattle.mdb_base.specs.declared.names.Tid.{Tid}
 use Rattle.mdb_base.specs.Names.{same_tid, tid_before}
 use Rattle.mdb_base.specs.Words.{Among, Each}
-use Rattle.order_laws.proofs.Lists.{bool_is}
-use Rattle.mdb_base.proofs.NameLaws.{same_tid-equal}
+use Rattle.order_laws.proofs.ForCallers.{bool_is}
+use Rattle.mdb_base.proofs.ForCallers.{same_tid-equal}
 use Rattle.fed_rules.specs.declared.records.SiteRecord.{SiteRecord}
 use Rattle.fed_rules.specs.declared.records.SiteRecord.TheVariants.{Setup, Start, Prepared, Ended, Local, Checkpoint}
 use Rattle.fed_rules.specs.SitePast.{journal, records}
@@ -15,10 +15,8 @@ use Rattle.fed_rules.specs.SiteSums.{locals_with, site_sum}
 use Rattle.fed_rules.specs.Story.{past_of, story_of}
 use Rattle.fed_rules.specs.Usable.{AreSumsOfSome, IsSumOfSome, RiseBy, OfFronts}
 use Rattle.site_history.specs.Records.{Binds, BindOnce}
-use Rattle.site_history.proofs.SitesOfStories.{of_events, sites_serial}
-use Rattle.site_history.proofs.WellKept.{StartsWell}
+use Rattle.site_history.proofs.ForCallers.{StartsWell, doubts_rise, of_events, sites_serial}
 use Rattle.site_history.specs.Sums.{AreSums}
-use Rattle.site_history.proofs.Doubtful.{doubts_rise}
 use Rattle.disk_laws.specs.Left.{OfSites, SumsAreOfSome}
 use Rattle.disk_laws.proofs.ReadRecords.{among_insert}
 use Rattle.disk_laws.proofs.Rises.{rise_inserted}

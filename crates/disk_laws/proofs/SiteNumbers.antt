@@ -1,7 +1,7 @@
 -- In a site's journal the numbers and tickets of Prepared and Local records, and of those that a Checkpoint has in doubt, are at least 1.
 use Rattle.std.proofs.Common.{List, [], ◌∷◌, sym, subst}
 use Rattle.mdb_base.specs.Words.{Each}
-use Rattle.mdb_base.proofs.ListLaws.{each_map, each_of_map}
+use Rattle.mdb_base.proofs.ForCallers.{each_map, each_of_map}
 use Rattle.fed_rules.specs.declared.records.SiteRecord.{SiteRecord}
 use Rattle.fed_rules.specs.declared.records.SiteRecord.TheVariants.{Setup, Start, Prepared, Ended, Local, Checkpoint}
 use Rattle.fed_rules.specs.declared.sums.SiteSum.{SiteSum}
@@ -11,11 +11,8 @@ use Rattle.fed_rules.specs.SitePast.{journal, records}
 use Rattle.fed_rules.specs.SiteRecords.{Held, Home, doubts, kept_held, start_of}
 use Rattle.fed_rules.specs.SiteSums.{site_sum}
 use Rattle.fed_rules.specs.Usable.{OfFronts}
-use Rattle.site_history.proofs.Fronts.{whole_of_fronts}
-use Rattle.site_history.proofs.SitesOfStories.{of_events}
-use Rattle.site_history.proofs.WellKept.{StartsWell, well_past}
+use Rattle.site_history.proofs.ForCallers.{StartsWell, of_events, pasts_summed, well_past, whole_of_fronts}
 use Rattle.site_history.specs.Sums.{AreSums}
-use Rattle.site_history.proofs.SummedPasts.{pasts_summed}
 use Rattle.disk_laws.specs.Left.{OfSites, IsSome, IsSomeHeld, NumbersAreSome}
 use Rattle.disk_laws.proofs.SiteLeft.{AreMarked, counts, each_counted, marked}
 use Rattle.disk_laws.proofs.SiteWalk.{AreWritten, written_past}

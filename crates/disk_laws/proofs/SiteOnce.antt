@@ -6,10 +6,9 @@ use Rattle.mdb_base.specs.declared.names.Tx.{Tx}
 use Rattle.mdb_base.specs.declared.rows.Put.{Put}
 use Rattle.mdb_base.specs.Names.{tid_before}
 use Rattle.mdb_base.specs.Words.{Among, Each, inserted}
-use Rattle.mdb_base.proofs.EachLaws.{among_append, among_behind, among_split}
+use Rattle.mdb_base.proofs.ForCallers.{among_append, among_behind, among_split}
 use Rattle.order_laws.specs.Chains.{In}
-use Rattle.order_laws.proofs.Alike.{same_of}
-use Rattle.order_laws.proofs.Lists.{among_is, among_map, among_weaker}
+use Rattle.order_laws.proofs.ForCallers.{among_is, among_map, among_weaker, same_of}
 use Rattle.fed_rules.specs.declared.records.SiteRecord.{SiteRecord}
 use Rattle.fed_rules.specs.declared.records.SiteRecord.TheVariants.{Setup, Start, Prepared, Ended, Local, Checkpoint}
 use Rattle.fed_rules.specs.EngineLines.{AllApart, AreApart}
@@ -21,23 +20,13 @@ use Rattle.fed_rules.specs.SiteRecords.{Held, Home, doubt_of, doubts, kept_held,
 use Rattle.fed_rules.specs.SiteSums.{carried, locals_with, site_sum}
 use Rattle.fed_rules.specs.Story.{past_of, story_of}
 use Rattle.fed_rules.specs.Usable.{AreParted, IsGlobalOf, IsLocalOf, IsPreparedOf, OnceEach, counted, OfFronts}
-use Rattle.federation_laws.proofs.LocalStories.{local-record}
-use Rattle.federation_laws.proofs.Members.{IsLocal}
-use Rattle.federation_laws.proofs.OnceLocal.{local-once}
-use Rattle.site_history.proofs.UsableSites.{locals_from}
+use Rattle.federation_laws.proofs.ForCallers.{IsLocal, local-once, local-record}
+use Rattle.site_history.proofs.ForCallers.{IsSortedRecord, StartsWell, doubt_in, doubt_prepared, doubts_are, foundation, locals_from, of_events, orders_past, pasts_summed, record_of, sites_serial, stories_right, well_past}
 use Rattle.site_history.specs.Records.{Binds, BindOnce}
 use Rattle.site_history.specs.SiteOrders.{OfSortedEvents}
-use Rattle.site_history.proofs.Histories.{IsSortedRecord}
-use Rattle.site_history.proofs.Records.{doubt_in, record_of, doubt_prepared}
-use Rattle.site_history.proofs.SitesOfStories.{of_events, sites_serial, stories_right}
-use Rattle.site_history.proofs.WellKept.{StartsWell, well_past}
 use Rattle.site_history.specs.Sums.{AreSums, ComeInOrder}
-use Rattle.site_history.proofs.Doubtful.{doubts_are}
-use Rattle.site_history.proofs.InOrderPasts.{orders_past}
-use Rattle.site_history.proofs.SummedPasts.{pasts_summed}
 use Rattle.disk_laws.specs.Left.{OfSites, OfGoodSites, AttemptsAreOnce, LocalsArePartedFromGlobals}
 use Rattle.disk_laws.proofs.ReadRecords.{among_insert}
-use Rattle.site_history.proofs.Founded.{foundation}
 use Rattle.disk_laws.proofs.SiteLeft.{counts}
 use Rattle.disk_laws.proofs.SiteRead.{Counts, Whole, Behind, count_behind, count_founded, counts_as, doubt_read}
 use Rattle.disk_laws.proofs.SiteWalk.{AreWritten, written_past}
@@ -247,7 +236,7 @@ leave_once scenario good commands site home declared =
     let past = past_of home.site (story_of scenario commands) in
     let k = of_events Known pasts_known scenario commands site home declared in
     let once = (sites_serial scenario commands site home declared).once in
-    let here : home_of scenario home.site ≡ Some home = Rattle.rules_laws.proofs.Declared.home-again scenario site home declared in
+    let here : home_of scenario home.site ≡ Some home = Rattle.rules_laws.proofs.ForCallers.home-again scenario site home declared in
     once_counted home (records home past) (journal home past) k.counts k.starts once
     (one_local (records home past)
     (λ a b p q s. local-once stories_right scenario good commands home here a b (local-record scenario commands home a here p) s (inr p) (inr q)) once)
@@ -280,7 +269,7 @@ owner_prepared [] t e = cc
 owner_prepared (Prepared u d n k w ∷ rs) t e = by_test (nat_lt (last_ticket rs) k) e (owner_prepared rs t)
   where
     by_test : (b : Bool) → cond b (Some u) (ticket_owner rs) ≡ Some t → (ticket_owner rs ≡ Some t → Among (IsPreparedOf t) rs) → Among (IsPreparedOf t) (Prepared u d n k w ∷ rs)
-    by_test true q h = inl (Rattle.mdb_base.proofs.OptionLaws.some_parts q)
+    by_test true q h = inl (Rattle.mdb_base.proofs.ForCallers.some_parts q)
     by_test false q h = inr (h q)
 owner_prepared (Setup site engine protocol items ∷ rs) t e = inr (owner_prepared rs t e)
 owner_prepared (Start n ∷ rs) t e = inr (owner_prepared rs t e)

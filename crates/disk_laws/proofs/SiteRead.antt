@@ -3,8 +3,7 @@ use Rattle.std.proofs.Common.{◌≡◌, ℕ, Option, Some, None, List, [], ◌�
 use Rattle.std.specs.Prelude.{nat_lt}
 use Rattle.mdb_base.specs.declared.names.Tid.{Tid}
 use Rattle.mdb_base.specs.Words.{Each}
-use Rattle.mdb_base.proofs.ListLaws.{each_inserted}
-use Rattle.mdb_base.proofs.JoinLaws.{append_nil}
+use Rattle.mdb_base.proofs.ForCallers.{append_nil, each_inserted}
 use Rattle.presumptions.specs.declared.Decision.TheVariants as Decided
 use Rattle.fed_rules.specs.declared.records.SiteRecord.{SiteRecord}
 use Rattle.fed_rules.specs.declared.records.SiteRecord.TheVariants.{Setup, Start, Prepared, Ended, Local, Checkpoint}
@@ -13,10 +12,7 @@ use Rattle.fed_rules.specs.Reopened.{local_read}
 use Rattle.fed_rules.specs.SiteRecords.{Held, Home, Install, doubt_of, doubts, install_held, installs}
 use Rattle.fed_rules.specs.SiteSums.{carried, site_sum}
 use Rattle.fed_rules.specs.Usable.{counted}
-use Rattle.site_history.proofs.Behind.{carried_same, doubt_behind, unsorted}
-use Rattle.site_history.proofs.Doubtful.{doubts_alike}
-use Rattle.site_history.proofs.Founded.{foundation}
-use Rattle.site_history.proofs.Records.{locals_undoubted}
+use Rattle.site_history.proofs.ForCallers.{carried_same, doubt_behind, doubts_alike, foundation, locals_undoubted, unsorted}
 
 -- what counts of a first Checkpoint
 abbrev pub counts_as : SiteSum → List SiteRecord

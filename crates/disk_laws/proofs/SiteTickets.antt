@@ -2,7 +2,7 @@
 use Rattle.std.proofs.Common.{ℕ, ◌<◌, ◌≤◌, max, Bool, List, [], ◌∷◌, ◌++◌, refl, sym, ap, subst, ◌∙◌, arith}
 use Rattle.mdb_base.specs.declared.names.Tx.{Tx}
 use Rattle.mdb_base.specs.Words.{Each, or_else}
-use Rattle.mdb_base.proofs.ListLaws.{each_map}
+use Rattle.mdb_base.proofs.ForCallers.{each_map}
 use Rattle.fed_rules.specs.declared.events.SiteEvent.{SiteEvent}
 use Rattle.fed_rules.specs.declared.records.SiteRecord.{SiteRecord}
 use Rattle.fed_rules.specs.declared.records.SiteRecord.TheVariants.{Setup, Start, Prepared, Ended, Local, Checkpoint}
@@ -15,16 +15,9 @@ use Rattle.fed_rules.specs.SitePast.{SitePast, epoch, epoch_start, engine_lines,
 use Rattle.fed_rules.specs.SiteRecords.{Home, last_ticket}
 use Rattle.fed_rules.specs.SiteSums.{site_sum}
 use Rattle.fed_rules.specs.Usable.{TicketsRise, tickets}
-use Rattle.engine_laws.proofs.SealedTickets.{ticket_is_next}
-use Rattle.engine_laws.proofs.Tickets.{published_at}
-use Rattle.site_history.proofs.Backed.{appended}
-use Rattle.site_history.proofs.HistoryMoves.{synced_append}
-use Rattle.site_history.proofs.Moves.{Moves, rests, begins_local, begins_work, goes_on, commits_local, prepares_run, settles_held, checks_sum}
-use Rattle.site_history.proofs.SitesOfStories.{of_events}
-use Rattle.site_history.proofs.MovedPasts.{KeptByMoves, moves_keep}
+use Rattle.engine_laws.proofs.ForCallers.{published_at, ticket_is_next}
+use Rattle.site_history.proofs.ForCallers.{KeptByMoves, Moves, appended, begins_local, begins_work, checks_sum, commits_local, goes_on, moves_keep, of_events, pasts_summed, prepares_run, published_lines, rests, settles_held, synced_append}
 use Rattle.site_history.specs.Sums.{AreSums}
-use Rattle.site_history.proofs.SummedPasts.{pasts_summed}
-use Rattle.site_history.proofs.TicketLines.{published_lines}
 use Rattle.disk_laws.specs.Left.{OfSites, TicketsStandInOrder}
 use Rattle.disk_laws.proofs.SiteLeft.{counts}
 use Rattle.disk_laws.proofs.SiteRead.{Counts, Whole, Behind}

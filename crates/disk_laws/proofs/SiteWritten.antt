@@ -10,12 +10,10 @@ use Rattle.fed_rules.specs.SitePast.{journal, records}
 use Rattle.fed_rules.specs.SiteRecords.{Held, Home, epoch_of}
 use Rattle.fed_rules.specs.SiteSums.{carried, site_sum}
 use Rattle.fed_rules.specs.Usable.{EpochsRise, SetUpFirst, read}
-use Rattle.rules_laws.proofs.SiteRecords.{epoch_same}
-use Rattle.site_history.proofs.SitesOfStories.{of_events}
+use Rattle.rules_laws.proofs.ForCallers.{epoch_same}
+use Rattle.site_history.proofs.ForCallers.{IsFounded, foundation, founded, of_events, pasts_summed}
 use Rattle.site_history.specs.Sums.{AreSums}
-use Rattle.site_history.proofs.SummedPasts.{pasts_summed}
 use Rattle.disk_laws.specs.Left.{OfSites, OneSetup, EpochsStandInOrder}
-use Rattle.site_history.proofs.Founded.{IsFounded, founded, foundation}
 use Rattle.disk_laws.proofs.SiteLeft.{counts}
 use Rattle.disk_laws.proofs.SiteRead.{Counts, Whole, Behind}
 use Rattle.disk_laws.proofs.SiteWalk.{AreWritten, set_all, set_more, written_front, written_past}

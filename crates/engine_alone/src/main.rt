@@ -16,7 +16,7 @@ use std::io::Write;
 use std::process::ExitCode;
 
 /// Runs a transaction that writes one key, to its end: by commit, or where the engine refuses it or lets it wait, by abort.
-#[tactic(auto, using(engine_contract::proofs::Lets::begun_acts, engine_contract::proofs::Lets::act_aborts))]
+#[tactic(auto, using(engine_contract::proofs::ForCallers::begun_acts, engine_contract::proofs::ForCallers::act_aborts))]
 fn write_alone<E: LocalEngine>(
     engine: &mut E,
     alloc: Global,

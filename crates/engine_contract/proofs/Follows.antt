@@ -11,7 +11,7 @@ use Rattle.mdb_base.specs.declared.replies.Why.{Why}
 use Rattle.fed_rules.specs.Runs.{Start, EngineLine, Begins, Acts, Takes, Refuses, Commits, Aborts, Got, Wrote, Run, begun, run_at, counter}
 use Rattle.fed_rules.specs.EngineLines.{IsFree, IsTicketless}
 use Rattle.engine_contract.specs.Calls.{NumberFits}
-use Rattle.fed_rules.proofs.RunLines.{run_at_own}
+use Rattle.fed_rules.proofs.ForCallers.{run_at_own}
 
 -- a begin leaves a live run without a ticket
 pub begun_then : (start : Start) (older : List EngineLine) (tid : Tid) (n : ℕ) → IsTicketless start (Begins tid n ∷ older) tid (begun tid n)

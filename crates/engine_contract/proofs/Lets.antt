@@ -9,7 +9,7 @@ use Rattle.fed_rules.specs.Runs.{Start, EngineLine, Begins, Acts, Takes, Seals, 
 use Rattle.engine_contract.specs.Calls.{CanAct, CanTake, CanSeal, CanCommit, CanAbort, HasJustBegun, HasJustSealed}
 use Rattle.fed_rules.specs.Replies.{rule}
 use Rattle.engine_contract.proofs.Follows.{begun_then, read_then, wrote_then, waits_then, waits_for_ticket_then, took_then, NumberFits-below}
-use Rattle.fed_rules.proofs.RunLines.{sealed_then}
+use Rattle.fed_rules.proofs.ForCallers.{sealed_then}
 
 -- what was begun can act, take the ticket and be taken back
 pub begun_acts : {start : Start} {older : List EngineLine} {tid : Tid} {n : ℕ} → CanAct tid start (Begins tid n ∷ older)

@@ -1,2 +1,3 @@
-pub mod Follows
-pub mod Lets
+pub mod ForCallers
+mod Follows
+mod Lets

@@ -10,7 +10,7 @@ use Rattle.mdb_base.specs.declared.replies.Reply.TheVariants as Reply_is
 use Rattle.mdb_base.specs.Rows.{look_up}
 use Rattle.mdb_base.specs.Names.{same_tid}
 use Rattle.mdb_base.specs.Words.{Each, those, some_of}
-use Rattle.mdb_base.proofs.ListLaws.{each_map, each_all, each_append, append_none, those_none}
+use Rattle.mdb_base.proofs.ForCallers.{append_none, each_all, each_append, each_map, those_none}
 use Rattle.fed_rules.specs.Runs.{Start, EngineLine, Begins, Seals, Got, Wrote, Run, tid_of, restored, run_at, unended, counter, number, committed, aborted, table_of, after}
 use Rattle.fed_rules.specs.Replies.{Drawn, AtBegin, rule, number_drawn, access_reply, age_stop, age_ticket_stop, younger_in_the_way, older_writers, is_younger, is_older, is_in_the_way, has_written, key_of, conflicts_with_read, or_reply}
 use Rattle.fed_rules.specs.EngineLines.{IsRight, IsStart}

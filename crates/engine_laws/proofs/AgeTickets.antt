@@ -6,8 +6,7 @@ use Rattle.mdb_base.specs.declared.names.Engine.{Engine}
 use Rattle.mdb_base.specs.declared.replies.Reply.TheVariants as Reply_is
 use Rattle.mdb_base.specs.Names.{same_tid}
 use Rattle.mdb_base.specs.Words.{Each}
-use Rattle.mdb_base.proofs.NameLaws.{same_tid-sym}
-use Rattle.mdb_base.proofs.ListLaws.{each_map, each_all, each_append, those_none}
+use Rattle.mdb_base.proofs.ForCallers.{each_all, each_append, each_map, same_tid-sym, those_none}
 use Rattle.fed_rules.specs.Runs.{Start, EngineLine, Takes, Commits, Run, tid_of, restored, run_at, unended, number, committed, published, is_sealed, has_ticket}
 use Rattle.fed_rules.specs.Replies.{AtBegin, rule, number_drawn, ticket_reply, younger_takers, older_takers, is_younger, is_older, or_reply}
 use Rattle.fed_rules.specs.EngineLines.{IsRight, IsRightLine, IsStart}

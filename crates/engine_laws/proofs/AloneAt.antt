@@ -11,12 +11,9 @@ use Rattle.mdb_base.specs.declared.replies.Reply.TheVariants as Reply_is
 use Rattle.mdb_base.specs.declared.replies.Why.{Why}
 use Rattle.mdb_base.specs.Names.{same_tid}
 use Rattle.mdb_base.specs.Words.{Each, those, found, with_some, least, greatest, some_of, is_empty}
-use Rattle.mdb_base.proofs.NameLaws.{same_tid-refl, same_tid-equal}
-use Rattle.mdb_base.proofs.Words.{cond-true, cond-false}
-use Rattle.mdb_base.proofs.EachLaws.{among_split}
+use Rattle.mdb_base.proofs.ForCallers.{among_split, cond-false, cond-true, same_tid-equal, same_tid-refl}
 use Rattle.order_laws.specs.Chains.{In}
-use Rattle.order_laws.proofs.Lists.{each_at}
-use Rattle.order_laws.proofs.InLaws.{none_pass}
+use Rattle.order_laws.proofs.ForCallers.{each_at, none_pass}
 use Rattle.fed_rules.specs.Replies.{is_other, is_younger, is_older, is_in_the_way, conflicts_with_read, has_written, has_read, key_of, access_key, age_of, wait_die, late_or_wait, access_stop, granted, or_reply, access_reply, ticket_stop, ticket_reply, spoilers, bad_keys, invalid_at, moved, moved_by, or_why, seal_stop, wait_for_writer, rule, age_stop, age_ticket_stop}
 use Rattle.fed_rules.specs.Runs.{Start, EngineLine, Begins, Acts, Takes, Seals, Commits, Access, Got, Wrote, Run, run_at, attempts, unended, begun, changed, after, committed, aborted, committed_since, published, owner, is_sealed, has_ticket}
 

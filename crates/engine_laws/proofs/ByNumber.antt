@@ -4,7 +4,7 @@ use Rattle.std.specs.Prelude.{nat_lt}
 use Rattle.mdb_base.specs.declared.names.Key.{Key}
 use Rattle.mdb_base.specs.Rows.{Table}
 use Rattle.mdb_base.specs.Words.{Each, those, inserted}
-use Rattle.mdb_base.proofs.ListLaws.{each_map, each_inserted, those_all}
+use Rattle.mdb_base.proofs.ForCallers.{each_inserted, each_map, those_all}
 use Rattle.fed_rules.specs.Runs.{Access, Run, number, after, table_of}
 use Rattle.fed_rules.specs.SerialRuns.{ReadsAlone, IsSerial, NumbersFall}
 use Rattle.engine_laws.specs.Unended.{has_write, IsClear}

@@ -6,7 +6,7 @@ use Rattle.mdb_base.specs.declared.names.Engine.{Engine}
 use Rattle.mdb_base.specs.Names.{same_tid}
 use Rattle.mdb_base.specs.Rows.{look_up}
 use Rattle.mdb_base.specs.Words.{Each}
-use Rattle.mdb_base.proofs.NameLaws.{same_tid-sym}
+use Rattle.mdb_base.proofs.ForCallers.{same_tid-sym}
 use Rattle.fed_rules.specs.Runs.{Start, EngineLine, Commits, Run, run_at, number, committed, table_of, table, after}
 use Rattle.fed_rules.specs.Replies.{Drawn}
 use Rattle.fed_rules.specs.EngineLines.{IsRight}

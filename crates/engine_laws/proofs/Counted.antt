@@ -1,7 +1,7 @@
 -- Every number that a run has was drawn: it is at least 1 and at most the counter.
 use Rattle.std.proofs.Common.{◌≡◌, ℕ, ◌<◌, ◌≤◌, max, Some, List, [], ◌∷◌, sym, ap, ◌∙◌, subst, arith}
 use Rattle.mdb_base.specs.Words.{Each}
-use Rattle.mdb_base.proofs.ListLaws.{each_map}
+use Rattle.mdb_base.proofs.ForCallers.{each_map}
 use Rattle.fed_rules.specs.declared.runs.Kept.{Kept}
 use Rattle.fed_rules.specs.Runs.{Start, EngineLine, Begins, Acts, Takes, Seals, Refuses, Commits, Aborts, Run, restored, counter, number, committed}
 use Rattle.fed_rules.specs.Replies.{Drawn, AtBegin, AtSealing, rule, number_drawn}

@@ -6,8 +6,7 @@ use Rattle.mdb_base.specs.declared.names.Key.{Key}
 use Rattle.mdb_base.specs.Names.{same_tid}
 use Rattle.mdb_base.specs.Rows.{Table, look_up}
 use Rattle.mdb_base.specs.Words.{Each, those, inserted}
-use Rattle.mdb_base.proofs.NameLaws.{same_tid-equal}
-use Rattle.mdb_base.proofs.ListLaws.{each_map, each_all, each_append, append_each, those_all, those_nothing, each_filtered}
+use Rattle.mdb_base.proofs.ForCallers.{append_each, each_all, each_append, each_filtered, each_map, same_tid-equal, those_all, those_nothing}
 use Rattle.fed_rules.specs.Runs.{Start, EngineLine, Commits, Run, run_at, number, committed, published, restored_at, table_of, by_number}
 use Rattle.fed_rules.specs.Replies.{access_key}
 use Rattle.fed_rules.specs.EngineLines.{IsRight, IsStart, IsNumbered, AllApart}

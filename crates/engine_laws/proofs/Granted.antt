@@ -9,7 +9,7 @@ use Rattle.mdb_base.specs.declared.replies.Reply.TheVariants.{Done, Value, Ticke
 use Rattle.mdb_base.specs.declared.replies.Why.TheVariants.{Die}
 use Rattle.mdb_base.specs.Names.{same_tid, same_key}
 use Rattle.mdb_base.specs.Words.{Each, some_of, least, greatest}
-use Rattle.mdb_base.proofs.NameLaws.{same_tid-sym, same_key-sym}
+use Rattle.mdb_base.proofs.ForCallers.{same_key-sym, same_tid-sym}
 use Rattle.fed_rules.specs.Runs.{Start, EngineLine, Access, Got, Wrote, Run, run_at}
 use Rattle.fed_rules.specs.Replies.{conflicts, access_key, is_other, is_younger, age_of, wait_die, late_or_wait, or_reply}
 use Rattle.fed_rules.specs.EngineLines.{IsRight}

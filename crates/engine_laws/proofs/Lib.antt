@@ -1,38 +1,39 @@
-pub mod AgeRuns
-pub mod AgeTickets
-pub mod ByNumber
-pub mod Commits
-pub mod Conflicts
-pub mod Counted
-pub mod Drawers
-pub mod EachRule
-pub mod Epochs
-pub mod Forms
-pub mod Granted
-pub mod Keeps
-pub mod LockingReplies
-pub mod LockingRuns
-pub mod LockingTickets
-pub mod MultiversionReplies
-pub mod MultiversionRuns
-pub mod Numbers
-pub mod Origins
-pub mod Refuted
-pub mod Relations
-pub mod Restored
-pub mod Rows
-pub mod RunLines
-pub mod Runs
-pub mod Sound
-pub mod Stops
-pub mod Tables
-pub mod Takers
-pub mod Tickets
-pub mod TimestampReplies
-pub mod TimestampRuns
-pub mod ValidationReplies
-pub mod ValidationRuns
-pub mod ValidationTickets
-pub mod AloneAt
-pub mod SealedTickets
-pub mod StopReplies
+pub mod ForCallers
+mod AgeRuns
+mod AgeTickets
+mod ByNumber
+mod Commits
+mod Conflicts
+mod Counted
+mod Drawers
+mod EachRule
+mod Epochs
+mod Forms
+mod Granted
+mod Keeps
+mod LockingReplies
+mod LockingRuns
+mod LockingTickets
+mod MultiversionReplies
+mod MultiversionRuns
+mod Numbers
+mod Origins
+mod Refuted
+mod Relations
+mod Restored
+mod Rows
+mod RunLines
+mod Runs
+mod Sound
+mod Stops
+mod Tables
+mod Takers
+mod Tickets
+mod TimestampReplies
+mod TimestampRuns
+mod ValidationReplies
+mod ValidationRuns
+mod ValidationTickets
+mod AloneAt
+mod SealedTickets
+mod StopReplies

@@ -5,7 +5,7 @@ use Rattle.mdb_base.specs.declared.names.Engine.TheVariants.{Locking}
 use Rattle.mdb_base.specs.declared.acts.PlainAct.{PlainAct}
 use Rattle.mdb_base.specs.declared.acts.PlainAct.TheVariants.{Read, Write}
 use Rattle.mdb_base.specs.Names.{same_tid}
-use Rattle.mdb_base.proofs.ListLaws.{some_among, among_some}
+use Rattle.mdb_base.proofs.ForCallers.{among_some, some_among}
 use Rattle.fed_rules.specs.Runs.{Start, EngineLine, Run, unended, has_ticket, is_sealed}
 use Rattle.fed_rules.specs.Replies.{conflicts, granted, access_stop, ticket_stop, holders, ticket_holders, is_other, is_in_the_way, or_reply, seal_stop}
 use Rattle.fed_rules.specs.EngineLines.{IsRight, IsStart}

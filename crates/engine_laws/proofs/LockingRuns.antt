@@ -8,8 +8,7 @@ use Rattle.mdb_base.specs.declared.replies.Reply.{Reply}
 use Rattle.mdb_base.specs.Names.{same_tid}
 use Rattle.mdb_base.specs.Rows.{look_up}
 use Rattle.mdb_base.specs.Words.{inserted}
-use Rattle.mdb_base.proofs.ListLaws.{each_map, each_all, those_none}
-use Rattle.mdb_base.proofs.NameLaws.{same_tid-sym}
+use Rattle.mdb_base.proofs.ForCallers.{each_all, each_map, same_tid-sym, those_none}
 use Rattle.fed_rules.specs.Runs.{Start, EngineLine, Seals, Commits, Run, tid_of, run_at, unended, counter, number, committed, table_of, table, after}
 use Rattle.fed_rules.specs.Replies.{AtSealing, access_reply_by, rule, locking, access_reply, seal_number, granted_by, holders, is_other, is_in_the_way}
 use Rattle.fed_rules.specs.EngineLines.{IsRight, IsStart}

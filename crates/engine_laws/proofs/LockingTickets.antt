@@ -4,7 +4,7 @@ use Rattle.std.proofs.lemmas.Bool.{and_from}
 use Rattle.mdb_base.specs.declared.names.Tid.{Tid}
 use Rattle.mdb_base.specs.declared.names.Engine.TheVariants.{Locking}
 use Rattle.mdb_base.specs.declared.replies.Reply.TheVariants as Reply_is
-use Rattle.mdb_base.proofs.ListLaws.{each_map, those_none}
+use Rattle.mdb_base.proofs.ForCallers.{each_map, those_none}
 use Rattle.fed_rules.specs.Runs.{Start, EngineLine, unended, counter, number, committed, published, is_sealed, has_ticket}
 use Rattle.fed_rules.specs.Replies.{ticket_stop, ticket_holders, is_other, or_reply, seal_number}
 use Rattle.fed_rules.specs.EngineLines.{IsRight, IsStart}

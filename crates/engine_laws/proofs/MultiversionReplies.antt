@@ -9,7 +9,7 @@ use Rattle.mdb_base.specs.declared.replies.Reply.TheVariants.{Done, Value, Ticke
 use Rattle.mdb_base.specs.declared.replies.Why.{Why}
 use Rattle.mdb_base.specs.Rows.{Table, look_up}
 use Rattle.mdb_base.specs.Words.{greatest}
-use Rattle.mdb_base.proofs.ListLaws.{each_among, some_among, among_some}
+use Rattle.mdb_base.proofs.ForCallers.{among_some, each_among, greatest_among, greatest_none, some_among}
 use Rattle.fed_rules.specs.Runs.{EngineLine, Begins, Acts, Takes, Seals, Refuses, Commits, Aborts, Run, tid_of, gives_up, committed, number, after, table_of}
 use Rattle.fed_rules.specs.Replies.{AtBegin, access_stop, rule, granted, granted_by, access_reply_by, seal_stop, has_written, writes, older_writers, younger_in_the_way, age_of, wait_for_writer, or_reply}
 use Rattle.fed_rules.specs.SerialRuns.{NumbersFall}
@@ -19,7 +19,6 @@ use Rattle.engine_laws.specs.Laws.{AlwaysBy}
 use Rattle.engine_laws.specs.ReplyLaws.{IsAmong, HasWritten, IsOlderWriter, IsYoungerInTheWay, IsInTime, IsOfItsAge, IsVersionBelow, ReadsItsVersion, AnswersByVersion, ReadersPass, AlwaysSeals, is_of_reader}
 use Rattle.engine_laws.proofs.Tables.{after_unwritten, after_written}
 use Rattle.engine_laws.proofs.ByNumber.{below}
-use Rattle.mdb_base.proofs.ListLaws.{greatest_none, greatest_among}
 use Rattle.engine_laws.proofs.Granted.{is_grant}
 use Rattle.engine_laws.proofs.Drawers.{AllDrew, all_drew, same_age}
 use Rattle.engine_laws.proofs.LockingReplies.{granted_is}

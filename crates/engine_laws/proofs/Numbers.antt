@@ -1,6 +1,6 @@
 -- How far the numbers of a site's engine have come: no further than the lines that draw them, and no ticket is more than one behind the published one.
 use Rattle.std.proofs.Common.{◌≡◌, ℕ, suc, ◌+◌, ◌≤◌, List, [], ◌∷◌, ◌++◌, arith}
-use Rattle.mdb_base.proofs.ListLaws.{each_map}
+use Rattle.mdb_base.proofs.ForCallers.{each_map}
 use Rattle.fed_rules.specs.declared.runs.Kept.{Kept}
 use Rattle.fed_rules.specs.EngineLines.{IsNumbered, IsRight, IsStart}
 use Rattle.fed_rules.specs.Replies.{Drawn, AtBegin, AtSealing, number_drawn, rule}

@@ -2,7 +2,7 @@
 use Rattle.std.proofs.Common.{◌≡◌, ℕ, ◌+◌, ◌<◌, ◌≤◌, ◌⊎◌, Some, None, List, [], ◌∷◌, refl, ap, ◌∙◌, inl, inr, arith}
 use Rattle.mdb_base.specs.declared.replies.Reply.TheVariants.{Ticket}
 use Rattle.mdb_base.specs.Words.{Each}
-use Rattle.mdb_base.proofs.ListLaws.{each_all}
+use Rattle.mdb_base.proofs.ForCallers.{each_all}
 use Rattle.fed_rules.specs.declared.runs.Kept.{Kept}
 use Rattle.fed_rules.specs.Runs.{Start, EngineLine, Takes, Seals, Run, tid_of, restored, restored_at, counter, committed, published}
 use Rattle.fed_rules.specs.Replies.{Drawn, AtBegin, AtSealing, rule, ticket_reply, number_drawn}

@@ -6,7 +6,7 @@ use Rattle.mdb_base.specs.declared.replies.Reply.TheVariants.{Wait, Refused}
 use Rattle.mdb_base.specs.declared.replies.Why.{Why}
 use Rattle.mdb_base.specs.declared.replies.Why.TheVariants.{Die, Late}
 use Rattle.mdb_base.specs.Words.{Each, those, found, with_some, least, greatest}
-use Rattle.mdb_base.proofs.ListLaws.{each_map, each_among, each_append, append_each, each_those, those_each, each_self, least_among, least_least, least_none, greatest_among, greatest_greatest, greatest_none}
+use Rattle.mdb_base.proofs.ForCallers.{append_each, each_among, each_append, each_map, each_self, each_those, greatest_among, greatest_greatest, greatest_none, least_among, least_least, least_none, those_each}
 use Rattle.fed_rules.specs.Runs.{Start, EngineLine, Run, run_at, attempts, unended}
 use Rattle.fed_rules.specs.Replies.{age_of, is_younger, wait_die, late_or_wait, or_reply}
 use Rattle.fed_rules.specs.EngineLines.{IsRight}

@@ -7,8 +7,7 @@ use Rattle.mdb_base.specs.declared.rows.Put.{Put}
 use Rattle.mdb_base.specs.Names.{same_tid, same_key}
 use Rattle.mdb_base.specs.Rows.{Table}
 use Rattle.mdb_base.specs.Words.{Each}
-use Rattle.mdb_base.proofs.NameLaws.{same_tid-equal, same_key-sym}
-use Rattle.mdb_base.proofs.ListLaws.{each_map, none_some_of}
+use Rattle.mdb_base.proofs.ForCallers.{each_map, none_some_of, same_key-sym, same_tid-equal}
 use Rattle.fed_rules.specs.declared.runs.Kept.{Kept}
 use Rattle.fed_rules.specs.Runs.{Run, written, restored, restored_at}
 use Rattle.fed_rules.specs.EngineLines.{AreApart, AllApart, has_row}

@@ -8,7 +8,7 @@ use Rattle.mdb_base.specs.Names.{same_key, same_site}
 use Rattle.mdb_base.specs.Rows.{Table, look_up, with_row, with_rows}
 use Rattle.mdb_base.specs.Rising.{IsRising}
 use Rattle.mdb_base.specs.declared.names.SiteId.{SiteId}
-use Rattle.mdb_base.proofs.NameLaws.{same_key-refl, same_key-equal}
+use Rattle.mdb_base.proofs.ForCallers.{same_key-equal, same_key-refl}
 use Rattle.fed_rules.specs.Runs.{Start, EngineLine, Access, Got, Wrote, Run, committed, written, after, table_of, puts_of, rows_of}
 use Rattle.fed_rules.specs.declared.scenario.ItemLine.{ItemLine}
 use Rattle.fed_rules.specs.Scenarios.{items_of}

@@ -5,7 +5,7 @@ use Rattle.mdb_base.specs.declared.names.Tid.{Tid}
 use Rattle.mdb_base.specs.Names.{same_tid, same_tx}
 use Rattle.mdb_base.specs.declared.names.Tx.{Tx}
 use Rattle.mdb_base.specs.Words.{Each}
-use Rattle.mdb_base.proofs.NameLaws.{same_tid-equal, same_tid-sym}
+use Rattle.mdb_base.proofs.ForCallers.{same_tid-equal, same_tid-sym}
 use Rattle.fed_rules.specs.Runs.{Run, changed, is_sealed, restored_at, Aborts}
 use Rattle.fed_rules.specs.EngineLines.{AreApart}
 use Rattle.fed_rules.specs.declared.runs.Kept.{Kept}

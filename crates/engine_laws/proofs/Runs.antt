@@ -8,8 +8,7 @@ use Rattle.mdb_base.specs.declared.replies.Reply.{Reply}
 use Rattle.mdb_base.specs.declared.replies.Reply.TheVariants as Reply_is
 use Rattle.mdb_base.specs.Names.{same_tid}
 use Rattle.mdb_base.specs.Words.{Each, Among, inserted, or_else}
-use Rattle.mdb_base.proofs.NameLaws.{same_tid-equal, same_tid-refl, same_tid-sym}
-use Rattle.mdb_base.proofs.ListLaws.{each_found, each_inserted}
+use Rattle.mdb_base.proofs.ForCallers.{each_found, each_inserted, same_tid-equal, same_tid-refl, same_tid-sym}
 use Rattle.fed_rules.specs.declared.runs.Kept.{Kept}
 use Rattle.fed_rules.specs.Runs.{Start, EngineLine, Begins, Acts, Takes, Seals, Refuses, Commits, Aborts, Got, Wrote, Run, tid_of, restored, restored_at, begun, acted, took, changed, run_at, attempts, unended, counter, number, committed, by_number}
 use Rattle.fed_rules.specs.Replies.{access_reply, ticket_reply, seal_stop, seal_number}

@@ -3,7 +3,7 @@ use Rattle.std.proofs.Common.{◌≡◌, ℕ, ◌+◌, Some, List, ◌∷◌, sy
 use Rattle.mdb_base.specs.declared.names.Engine.{Engine}
 use Rattle.mdb_base.specs.declared.names.Engine.TheVariants.{Locking, Timestamp, Validation, Multiversion}
 use Rattle.mdb_base.specs.declared.names.Tid.{Tid}
-use Rattle.mdb_base.proofs.OptionLaws.{some_parts}
+use Rattle.mdb_base.proofs.ForCallers.{some_parts}
 use Rattle.fed_rules.specs.EngineLines.{IsLive, IsRight, IsStart}
 use Rattle.fed_rules.specs.Replies.{invalid, moved, seal_stop}
 use Rattle.fed_rules.specs.Runs.{EngineLine, Run, Seals, Start, published}

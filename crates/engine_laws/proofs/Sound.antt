@@ -5,7 +5,7 @@ use Rattle.mdb_base.specs.declared.names.Tid.{Tid}
 use Rattle.mdb_base.specs.Names.{same_tid}
 use Rattle.mdb_base.specs.Rows.{Table, look_up}
 use Rattle.mdb_base.specs.Words.{Each, inserted}
-use Rattle.mdb_base.proofs.ListLaws.{each_map, each_all, each_inserted, those_inserted}
+use Rattle.mdb_base.proofs.ForCallers.{each_all, each_inserted, each_map, those_inserted}
 use Rattle.fed_rules.specs.declared.runs.Kept.{Kept}
 use Rattle.fed_rules.specs.Runs.{Start, EngineLine, Commits, Access, Run, tid_of, written, restored, run_at, number, committed, table_of, table}
 use Rattle.fed_rules.specs.Replies.{Drawn, AtBegin, AtSealing}

@@ -11,7 +11,7 @@ use Rattle.mdb_base.specs.declared.replies.Reply.TheVariants as Reply_is
 use Rattle.mdb_base.specs.declared.replies.Why.{Why}
 use Rattle.mdb_base.specs.declared.replies.Why.TheVariants as Because
 use Rattle.mdb_base.specs.Words.{Each, greatest, least}
-use Rattle.mdb_base.proofs.ListLaws.{append_each, each_filtered, greatest_among, least_among}
+use Rattle.mdb_base.proofs.ForCallers.{append_each, each_filtered, greatest_among, least_among}
 use Rattle.fed_rules.specs.Replies.{age_of, age_stop, age_ticket_stop, has_written, holders, invalid, invalid_at, invalid_by, late_or_wait, moved, moved_by, older_takers, older_writers, or_why, rule, seal_stop, ticket_holders, version_stop, wait_die, wait_for_writer, younger_in_the_way, younger_takers}
 use Rattle.fed_rules.specs.Runs.{EngineLine, Run, Start, aborted, committed, owner, published, unended}
 

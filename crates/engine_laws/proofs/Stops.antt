@@ -8,8 +8,7 @@ use Rattle.mdb_base.specs.declared.rows.Put.{Put}
 use Rattle.mdb_base.specs.Names.{same_tid, same_key}
 use Rattle.mdb_base.specs.Rows.{with_row}
 use Rattle.mdb_base.specs.Words.{Each}
-use Rattle.mdb_base.proofs.NameLaws.{same_key-equal, same_tid-equal, same_tid-sym}
-use Rattle.mdb_base.proofs.RowLaws.{each_with_row}
+use Rattle.mdb_base.proofs.ForCallers.{each_with_row, same_key-equal, same_tid-equal, same_tid-sym}
 use Rattle.fed_rules.specs.declared.runs.Kept.{Kept}
 use Rattle.fed_rules.specs.Runs.{Start, EngineLine, Access, Got, Wrote, Run, run_at, published, written, restored, restored_at, table, after, puts_of}
 use Rattle.fed_rules.specs.Replies.{Drawn, rule}

@@ -4,8 +4,7 @@ use Rattle.mdb_base.specs.declared.names.Key.{Key}
 use Rattle.mdb_base.specs.Names.{same_key}
 use Rattle.mdb_base.specs.Rows.{Table}
 use Rattle.mdb_base.specs.Words.{Each}
-use Rattle.mdb_base.proofs.NameLaws.{same_key-equal}
-use Rattle.mdb_base.proofs.ListLaws.{each_map}
+use Rattle.mdb_base.proofs.ForCallers.{each_map, same_key-equal}
 use Rattle.fed_rules.specs.Runs.{Access, Got, Wrote, after}
 use Rattle.fed_rules.specs.Replies.{access_key}
 use Rattle.fed_rules.specs.SerialRuns.{ReadsAlone}

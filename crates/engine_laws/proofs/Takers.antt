@@ -4,7 +4,7 @@ use Rattle.mdb_base.specs.declared.names.Tid.{Tid}
 use Rattle.mdb_base.specs.declared.replies.Reply.TheVariants as Reply_is
 use Rattle.mdb_base.specs.Names.{same_tid}
 use Rattle.mdb_base.specs.Words.{or_else}
-use Rattle.mdb_base.proofs.ListLaws.{each_all}
+use Rattle.mdb_base.proofs.ForCallers.{each_all}
 use Rattle.fed_rules.specs.Runs.{Start, EngineLine, Begins, Acts, Takes, Seals, Refuses, Commits, Aborts, Run, tid_of, restored, run_at, published}
 use Rattle.fed_rules.specs.Replies.{ticket_reply}
 use Rattle.fed_rules.specs.EngineLines.{IsRightLine, IsTicketless}

@@ -3,7 +3,7 @@ use Rattle.std.proofs.Common.{◌≡◌, ℕ, ◌<◌, ◌≤◌, ◌⊎◌, max
 use Rattle.mdb_base.specs.declared.names.Tid.{Tid}
 use Rattle.mdb_base.specs.Names.{same_tid}
 use Rattle.mdb_base.specs.Words.{Each, inserted, or_else}
-use Rattle.mdb_base.proofs.ListLaws.{each_map, each_all, each_inserted}
+use Rattle.mdb_base.proofs.ForCallers.{each_all, each_inserted, each_map}
 use Rattle.fed_rules.specs.declared.runs.Kept.{Kept}
 use Rattle.fed_rules.specs.Runs.{Start, EngineLine, Begins, Acts, Takes, Seals, Refuses, Commits, Aborts, Run, tid_of, restored, run_at, number, committed, published, ticket_of}
 use Rattle.fed_rules.specs.Replies.{seal_stop, seal_number}

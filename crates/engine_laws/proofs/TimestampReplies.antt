@@ -6,8 +6,7 @@ use Rattle.mdb_base.specs.declared.names.Key.{Key}
 use Rattle.mdb_base.specs.declared.acts.PlainAct.{PlainAct}
 use Rattle.mdb_base.specs.Names.{same_tid}
 use Rattle.mdb_base.specs.Words.{those, some_of}
-use Rattle.mdb_base.proofs.NameLaws.{same_tid-equal}
-use Rattle.mdb_base.proofs.ListLaws.{each_among, some_among, among_some}
+use Rattle.mdb_base.proofs.ForCallers.{among_some, each_among, same_tid-equal, some_among}
 use Rattle.fed_rules.specs.Runs.{Start, EngineLine, Run, unended, committed, aborted, has_ticket, is_sealed}
 use Rattle.fed_rules.specs.Replies.{AtBegin, conflicts, conflicts_with_read, writes, granted, access_stop, ticket_stop, younger_in_the_way, older_writers, younger_takers, older_takers, is_younger, is_older, is_in_the_way, has_written, key_of, or_reply, seal_stop}
 use Rattle.fed_rules.specs.EngineLines.{IsRight}

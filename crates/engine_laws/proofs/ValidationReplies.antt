@@ -7,8 +7,7 @@ use Rattle.mdb_base.specs.declared.names.Tid.{Tid}
 use Rattle.mdb_base.specs.declared.replies.Why.TheVariants.{Invalid, TicketMoved}
 use Rattle.mdb_base.specs.Names.{same_tid}
 use Rattle.mdb_base.specs.Words.{Each, Among, those, least, greatest, is_empty}
-use Rattle.mdb_base.proofs.NameLaws.{same_key-equal}
-use Rattle.mdb_base.proofs.ListLaws.{each_map, each_among, each_self, each_those, those_each, some_among, among_some, least_among, least_least, least_none, greatest_among, greatest_greatest, greatest_none, among_map, map_among}
+use Rattle.mdb_base.proofs.ForCallers.{among_map, among_some, each_among, each_map, each_self, each_those, greatest_among, greatest_greatest, greatest_none, least_among, least_least, least_none, map_among, same_key-equal, some_among, those_each}
 use Rattle.fed_rules.specs.Runs.{Start, EngineLine, Access, Got, Wrote, Run, unended, committed_since, published, owner, is_sealed, number}
 use Rattle.fed_rules.specs.Replies.{access_key, reads, writes, granted, access_stop, ticket_stop, has_read, has_written, is_other, spoilers, bad_keys, invalid, invalid_at, invalid_by, moved, moved_by, or_reply, or_why, seal_stop}
 use Rattle.fed_rules.specs.EngineLines.{IsRight, IsStart}

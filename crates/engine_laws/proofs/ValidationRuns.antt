@@ -10,8 +10,7 @@ use Rattle.mdb_base.specs.declared.replies.Why.{Why}
 use Rattle.mdb_base.specs.Names.{same_tid, same_key}
 use Rattle.mdb_base.specs.Rows.{Table, look_up}
 use Rattle.mdb_base.specs.Words.{Each, some_of, those, least, greatest, with_some, inserted, is_empty}
-use Rattle.mdb_base.proofs.NameLaws.{same_key-refl}
-use Rattle.mdb_base.proofs.ListLaws.{each_map, each_all, those_none, none_some_of, append_none, each_of_map, least_none, least_among, those_pass}
+use Rattle.mdb_base.proofs.ForCallers.{append_none, each_all, each_map, each_of_map, least_among, least_none, none_some_of, same_key-refl, those_none, those_pass}
 use Rattle.fed_rules.specs.Runs.{Start, EngineLine, Begins, Acts, Takes, Seals, Refuses, Commits, Aborts, Access, Got, Wrote, Run, tid_of, restored, run_at, unended, counter, number, committed, committed_since, is_sealed, table_of, table, after}
 use Rattle.fed_rules.specs.Replies.{AtSealing, access_reply_by, rule, access_key, validation, granted_by, reads, has_read, has_written, is_other, spoilers, bad_keys, invalid, invalid_at, invalid_by, moved, or_why, seal_stop, seal_number}
 use Rattle.fed_rules.specs.EngineLines.{IsRight, IsRightLine, IsStart}

@@ -4,7 +4,7 @@ use Rattle.std.specs.Prelude.{nat_lt}
 use Rattle.mdb_base.specs.declared.names.Tid.{Tid}
 use Rattle.mdb_base.specs.declared.names.Engine.TheVariants.{Validation}
 use Rattle.mdb_base.specs.declared.replies.Reply.TheVariants as Reply_is
-use Rattle.mdb_base.proofs.ListLaws.{each_all}
+use Rattle.mdb_base.proofs.ForCallers.{each_all}
 use Rattle.fed_rules.specs.Runs.{Start, EngineLine, Seals, Run, restored, run_at, published, owner, ticket_of}
 use Rattle.fed_rules.specs.Replies.{ticket_stop, or_reply, invalid, moved, moved_by, seal_stop, seal_number}
 use Rattle.fed_rules.specs.EngineLines.{IsRight, IsStart}

@@ -1,2 +1,2 @@
-pub mod Agreement
-pub mod Starting
+mod Agreement
+mod Starting

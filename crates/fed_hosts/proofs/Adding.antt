@@ -3,7 +3,7 @@ use Rattle.std.proofs.Common.{◌≡◌, ℕ, suc, ◌+◌, ◌≤◌, ◌<◌, 
 use Rattle.std.specs.Prelude.{option_to_list}
 use Rattle.mdb_base.specs.declared.names.SiteId.{SiteId}
 use Rattle.mdb_base.specs.declared.names.Tx.{Tx}
-use Rattle.mdb_base.proofs.JoinLaws.{length-append, length-option, reverse_more}
+use Rattle.mdb_base.proofs.ForCallers.{length-append, length-option, reverse_more}
 use Rattle.fed_rules.specs.declared.messages.FromSite.{FromSite}
 use Rattle.fed_rules.specs.declared.messages.ToSite.{ToSite}
 use Rattle.fed_rules.specs.SitePast.{attempts_of, begins_tx}

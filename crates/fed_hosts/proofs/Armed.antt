@@ -1,7 +1,7 @@
 -- The arming of a stop behind the lines, where one has to be armed.
 use Rattle.std.proofs.Common.{◌≡◌, ℕ, suc, ◌≤◌, ◌<◌, Bool, true, false, cond, is_some, Some, None, List, [], ◌∷◌, length, slice_get, append-nil, refl, sym, ap, ◌∙◌, subst, arith}
 use Rattle.mdb_base.specs.Words.{Each}
-use Rattle.mdb_base.proofs.EachLaws.{each_at_place}
+use Rattle.mdb_base.proofs.ForCallers.{each_at_place}
 use Rattle.fed_rules.specs.declared.answers.Answer.{Answer}
 use Rattle.fed_rules.specs.declared.answers.Answer.TheVariants as Say
 use Rattle.fed_rules.specs.declared.commands.Command.TheVariants as Cmd
@@ -13,7 +13,7 @@ use Rattle.fed_rules.specs.Runs.{Start, EngineLine}
 use Rattle.fed_rules.specs.Site.{site_line}
 use Rattle.fed_rules.specs.SitePast.{SiteHappening, attempts_of, begins_tx, trip}
 use Rattle.journal_disk.specs.Disk.{Seen}
-use Rattle.site_core.proofs.StopLaws.{trip_is}
+use Rattle.site_core.proofs.ForCallers.{trip_is}
 use Rattle.local_dbms.specs.declared.dbms.LocalDbms.{LocalDbms}
 use Rattle.local_dbms.specs.Stands.{Serves, Stands}
 use Rattle.scripted_link.specs.declared.outlet.Outlet.{Outlet}

@@ -16,17 +16,15 @@ use Rattle.fed_rules.specs.SiteCommands.{answer_to, own_request, past_behind}
 use Rattle.fed_rules.specs.SitePast.{SitePast, attempts_of, begins_tx}
 use Rattle.fed_rules.specs.SiteRecords.{Home}
 use Rattle.site_core.specs.Made.{IsGoingOn}
-use Rattle.site_core.proofs.RuleWalks.{line_event}
+use Rattle.site_core.proofs.ForCallers.{line_event}
 use Rattle.local_dbms.specs.declared.asks.SiteAsk.{SiteAsk}
 use Rattle.local_dbms.specs.Asks.{CanAsk, site_request}
 use Rattle.local_dbms.specs.Stands.{IsShort, OwnPrograms, Serves, Tells}
-use Rattle.local_dbms.proofs.Bounds.{made_small}
-use Rattle.local_dbms.proofs.Small.{IsBegunBy}
+use Rattle.local_dbms.proofs.ForCallers.{IsBegunBy, begun_tx, made_small}
 use Rattle.fed_hosts.specs.declared.site_actor.LineParts.{LineParts}
 use Rattle.fed_hosts.specs.declared.verbs.Verb.{Verb}
 use Rattle.fed_hosts.specs.declared.verbs.Verb.TheVariants as Asks
 use Rattle.fed_rules.specs.Short.{IsShortAnswer}
-use Rattle.local_dbms.proofs.Owned.{begun_tx}
 use Rattle.fed_hosts.specs.Carrying.{IsTold}
 use Rattle.host_laws.specs.History.{IsCommand}
 use Rattle.fed_hosts.specs.Keeps.{most_begun}

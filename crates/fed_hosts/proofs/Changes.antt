@@ -1,9 +1,8 @@
 -- What is done to the items of a list one after another.
 use Rattle.std.proofs.Common.{◌≡◌, ℕ, ◌+◌, ◌<◌, ◌≤◌, ◌==◌, Bool, true, false, Some, List, [], ◌∷◌, length, map, slice_get, slice_set, suc, refl, sym, ap, ap₂, ◌∙◌, subst, eqb-true, eq-eqb, arith}
 use Rattle.std.proofs.lemmas.Option.{slice_get_within, same_Some}
-use Rattle.mdb_base.proofs.JoinLaws.{length-map}
-use Rattle.mdb_base.proofs.PlaceLaws.{slice_get-there, made_of}
-use Rattle.session_routes.proofs.Posts.{get_other, get_put, length_set}
+use Rattle.mdb_base.proofs.ForCallers.{length-map, made_of, slice_get-there}
+use Rattle.session_routes.proofs.ForCallers.{get_other, get_put, length_set}
 use Rattle.fed_hosts.specs.Ports.{EachBecomes}
 
 -- the item that one of the new ones was

@@ -5,7 +5,7 @@ use Rattle.std.proofs.lemmas.Option.{same_Some}
 use Rattle.mdb_base.specs.declared.names.SiteId.{SiteId}
 use Rattle.mdb_base.specs.declared.names.Tx.{Tx}
 use Rattle.mdb_base.specs.Words.{found, map_some, with_some}
-use Rattle.mdb_base.proofs.JoinLaws.{length-append, length-option, reverse_more}
+use Rattle.mdb_base.proofs.ForCallers.{length-append, length-option, reverse_more}
 use Rattle.presumptions.specs.declared.Participant.{Participant}
 use Rattle.fed_rules.specs.declared.commands.Place.{Place}
 use Rattle.fed_rules.specs.declared.messages.FromSite.{FromSite}

@@ -1,6 +1,6 @@
 -- The arming of a stop behind the lines of the coordinator's host, where one has to be armed.
 use Rattle.std.proofs.Common.{◌≡◌, ℕ, suc, ◌+◌, ◌≤◌, ◌<◌, Bool, true, false, cond, is_some, Some, None, List, [], ◌∷◌, ◌++◌, length, slice_get, append-nil, refl, sym, ap, ◌∙◌, subst, arith}
-use Rattle.mdb_base.proofs.EachLaws.{each_at_place}
+use Rattle.mdb_base.proofs.ForCallers.{each_at_place}
 use Rattle.fed_rules.specs.declared.answers.Answer.{Answer}
 use Rattle.fed_rules.specs.declared.answers.Answer.TheVariants as Say
 use Rattle.fed_rules.specs.declared.commands.Command.TheVariants as Cmd
@@ -13,7 +13,7 @@ use Rattle.fed_rules.specs.Policies.{Policy}
 use Rattle.fed_rules.specs.Right.{MayPrint}
 use Rattle.fed_rules.specs.SitePast.{begins_tx}
 use Rattle.journal_disk.specs.Disk.{Seen}
-use Rattle.coord_core.proofs.Endings.{trip_line}
+use Rattle.coord_core.proofs.ForCallers.{trip_line}
 use Rattle.global_manager.specs.declared.manager.GlobalManager.{GlobalManager}
 use Rattle.global_manager.specs.Stands.{Sends, Stands}
 use Rattle.scripted_link.specs.Rings.{Wire}

@@ -21,8 +21,7 @@ use Rattle.fed_messages.specs.declared.Packet.{Packet}
 use Rattle.journal_disk.specs.Disk.{Seen}
 use Rattle.mdb_base.specs.declared.replies.Edge.{Edge}
 use Rattle.coord_tables.specs.Terms.{Terms, line_of}
-use Rattle.coord_laws.proofs.Made.{Begins}
-use Rattle.coord_laws.proofs.MadeLines.{coord_made}
+use Rattle.coord_laws.proofs.ForCallers.{Begins, coord_made}
 use Rattle.actor_store.specs.declared.errors.StepErr.{StepErr}
 use Rattle.global_manager.specs.declared.asks.CoordAsk.{CoordAsk}
 use Rattle.global_manager.specs.declared.manager.GlobalManager.{GlobalManager}

@@ -6,7 +6,7 @@ use Rattle.fed_rules.specs.Policies.{Policy}
 use Rattle.fed_messages.specs.declared.Packet.{Packet}
 use Rattle.journal_disk.specs.Disk.{Seen}
 use Rattle.scripted_link.specs.Rings.{Wire}
-use Rattle.scripted_link.proofs.Waiting.{unoffered_moved}
+use Rattle.scripted_link.proofs.ForCallers.{unoffered_moved}
 use Rattle.fed_hosts.specs.declared.coord_actor.CoordActor.{CoordActor}
 use Rattle.host_laws.specs.CoordHearing.{HasHeardFrom}
 use Rattle.host_laws.specs.CoordHistory.{IsCoordHistory}

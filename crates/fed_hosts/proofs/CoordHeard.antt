@@ -7,9 +7,7 @@ use Rattle.mdb_base.specs.declared.names.SiteId.{SiteId}
 use Rattle.mdb_base.specs.Names.{same_site}
 use Rattle.mdb_base.specs.Rising.{IsRising}
 use Rattle.mdb_base.specs.Words.{Each, with_some}
-use Rattle.mdb_base.proofs.EachLaws.{each_at_place}
-use Rattle.mdb_base.proofs.JoinLaws.{reverse_more}
-use Rattle.mdb_base.proofs.RisingLaws.{rising_rest}
+use Rattle.mdb_base.proofs.ForCallers.{each_at_place, reverse_more, rising_rest}
 use Rattle.presumptions.specs.declared.Participant.{Participant}
 use Rattle.fed_rules.specs.declared.commands.Command.TheVariants as Cmd
 use Rattle.fed_rules.specs.declared.messages.FromSite.{FromSite}

@@ -6,7 +6,7 @@ use Rattle.mdb_base.specs.declared.names.Tid.{Tid}
 use Rattle.mdb_base.specs.declared.names.Tx.{Tx}
 use Rattle.mdb_base.specs.Names.{same_tx}
 use Rattle.mdb_base.specs.Words.{given, how_many, when, with_some}
-use Rattle.mdb_base.proofs.NameLaws.{same_tx-equal}
+use Rattle.mdb_base.proofs.ForCallers.{same_tx-equal}
 use Rattle.fed_rules.specs.declared.answers.Answer.{Answer}
 use Rattle.fed_rules.specs.declared.answers.Answer.TheVariants as Say
 use Rattle.fed_rules.specs.declared.events.CoordEvent.{CoordEvent}
@@ -20,8 +20,7 @@ use Rattle.fed_rules.specs.Happenings.{Trip, is_down, quiet, stopped, tripped}
 use Rattle.fed_rules.specs.Requests.{Request, Submits, Declines, attempt, unless_begun}
 use Rattle.fed_rules.specs.SitePast.{begins_tx}
 use Rattle.coord_tables.specs.Terms.{Terms, line_of}
-use Rattle.coord_laws.proofs.Made.{Begins}
-use Rattle.coord_laws.proofs.MadeLines.{coord_made}
+use Rattle.coord_laws.proofs.ForCallers.{Begins, coord_made}
 use Rattle.global_manager.specs.Stands.{OwnPrograms}
 use Rattle.fed_hosts.specs.declared.coord_asks.CoordCall.{CoordCall}
 use Rattle.fed_hosts.specs.declared.coord_asks.CoordCall.TheVariants as Call

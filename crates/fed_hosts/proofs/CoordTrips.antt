@@ -7,7 +7,7 @@ use Rattle.fed_rules.specs.declared.events.CoordEvent.TheVariants as Ev
 use Rattle.fed_rules.specs.CoordPast.{CoordHappening, CoordPast, trip}
 use Rattle.fed_rules.specs.Happenings.{Trip, quiet}
 use Rattle.coord_tables.specs.Terms.{line_of}
-use Rattle.coord_core.proofs.Endings.{trip_line}
+use Rattle.coord_core.proofs.ForCallers.{trip_line}
 use Rattle.host_laws.specs.CoordPlans.{CoordPlan}
 use Rattle.host_laws.specs.CoordTurns.{CoordTurn, coord_is_due, coord_past_of, coord_trips_of}
 use Rattle.fed_hosts.proofs.Words.{none_not, some_not}

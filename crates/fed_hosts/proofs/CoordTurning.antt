@@ -8,8 +8,8 @@ use Rattle.mdb_base.specs.declared.names.SiteId.{SiteId}
 use Rattle.mdb_base.specs.Names.{same_site}
 use Rattle.mdb_base.specs.Counts.{HasCauseOf}
 use Rattle.mdb_base.specs.Words.{some_of}
-use Rattle.mdb_base.proofs.PlaceLaws.{slice_get-there}
-use Rattle.session_routes.proofs.Posts.{get_put}
+use Rattle.mdb_base.proofs.ForCallers.{slice_get-there}
+use Rattle.session_routes.proofs.ForCallers.{get_put}
 use Rattle.presumptions.specs.declared.Participant.{Participant}
 use Rattle.fed_rules.specs.declared.commands.Command.TheVariants as Cmd
 use Rattle.fed_rules.specs.declared.commands.Stamped.{Stamped}
@@ -27,7 +27,7 @@ use Rattle.fed_messages.specs.declared.Envelope.{Envelope}
 use Rattle.fed_messages.specs.declared.Packet.{Packet}
 use Rattle.global_exec.specs.Pasts.{IsAmong}
 use Rattle.journal_disk.specs.Disk.{Seen}
-use Rattle.rules_laws.proofs.CoordPasts.{BeginsNothing}
+use Rattle.rules_laws.proofs.ForCallers.{BeginsNothing}
 use Rattle.coord_tables.specs.Terms.{line_of}
 use Rattle.global_manager.specs.declared.asks.CoordAsk.{CoordAsk}
 use Rattle.global_manager.specs.declared.manager.GlobalManager.{GlobalManager}

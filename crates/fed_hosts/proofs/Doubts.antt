@@ -4,8 +4,7 @@ use Rattle.std.proofs.lemmas.Option.{same_Some}
 use Rattle.mdb_base.specs.declared.names.Tid.{Tid}
 use Rattle.mdb_base.specs.Names.{same_tid, tid_before}
 use Rattle.mdb_base.specs.Words.{Each, map_some}
-use Rattle.mdb_base.proofs.NameLaws.{same_tid-refl}
-use Rattle.mdb_base.proofs.OptionLaws.{some_mapped}
+use Rattle.mdb_base.proofs.ForCallers.{same_tid-refl, some_mapped}
 use Rattle.fed_rules.specs.declared.runs.Doubt.{Doubt}
 use Rattle.fed_rules.specs.SitePast.{SitePast, records}
 use Rattle.fed_rules.specs.SiteRecords.{Home, doubt_of}

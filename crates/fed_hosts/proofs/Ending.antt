@@ -7,7 +7,7 @@ use Rattle.fed_rules.specs.Runs.{Start, EngineLine}
 use Rattle.fed_messages.specs.declared.Packet.{Packet}
 use Rattle.journal_disk.specs.Disk.{Seen}
 use Rattle.scripted_link.specs.Rings.{Wire}
-use Rattle.scripted_link.proofs.Waiting.{unoffered_moved}
+use Rattle.scripted_link.proofs.ForCallers.{unoffered_moved}
 use Rattle.fed_hosts.specs.declared.site_actor.SiteActor.{SiteActor}
 use Rattle.host_laws.specs.Hearing.{HasHeard}
 use Rattle.host_laws.specs.History.{IsHistory}

@@ -1,34 +1,35 @@
-pub mod Words
-pub mod Faults
-pub mod Rising
-pub mod Adding
-pub mod Trips
-pub mod Own
-pub mod Same
-pub mod Armed
-pub mod Carried
-pub mod Asked
-pub mod Served
-pub mod Lines
-pub mod Events
-pub mod Calls
-pub mod Turning
-pub mod Ending
-pub mod Views
-pub mod Changes
-pub mod Doubts
-pub mod PortPlaces
-pub mod Polled
-pub mod CoordTrips
-pub mod CoordAdding
-pub mod CoordArmed
-pub mod CoordSame
-pub mod CoordPassed
-pub mod CoordCarried
-pub mod CoordServed
-pub mod CoordOwn
-pub mod CoordAsked
-pub mod CoordHeard
-pub mod CoordTurning
-pub mod CoordEnding
-pub mod CoordViews
+pub mod ForCallers
+mod Words
+mod Faults
+mod Rising
+mod Adding
+mod Trips
+mod Own
+mod Same
+mod Armed
+mod Carried
+mod Asked
+mod Served
+mod Lines
+mod Events
+mod Calls
+mod Turning
+mod Ending
+mod Views
+mod Changes
+mod Doubts
+mod PortPlaces
+mod Polled
+mod CoordTrips
+mod CoordAdding
+mod CoordArmed
+mod CoordSame
+mod CoordPassed
+mod CoordCarried
+mod CoordServed
+mod CoordOwn
+mod CoordAsked
+mod CoordHeard
+mod CoordTurning
+mod CoordEnding
+mod CoordViews

@@ -24,7 +24,7 @@ use Rattle.fed_rules.specs.SiteCommands as Rule
 use Rattle.fed_rules.specs.SiteCommands.{answer_to, begin_next, next_step, own_request, request, when_done, with_live}
 use Rattle.fed_rules.specs.SitePast.{SiteHappening, SitePast, attempts_of, begins_tx, disk, trip}
 use Rattle.fed_rules.specs.SiteRecords.{Home, site_frame}
-use Rattle.site_core.proofs.RuleWalks.{by_given, by_when}
+use Rattle.site_core.proofs.ForCallers.{by_given, by_when}
 use Rattle.fed_rules.specs.Short.{IsShortAnswer}
 
 -- a line that sends nothing and answers no cycle

@@ -4,7 +4,7 @@ use Rattle.std.specs.Prelude.{option_to_list, IfNone}
 use Rattle.std.proofs.lemmas.Bool.{cases_lt, ne_eqb}
 use Rattle.std.proofs.lemmas.Option.{same_Some}
 use Rattle.fed_messages.specs.declared.Packet.{Packet}
-use Rattle.session_routes.proofs.Posts.{get_other, get_put}
+use Rattle.session_routes.proofs.ForCallers.{get_other, get_put}
 use Rattle.scripted_link.specs.declared.inlet.Inlet.{Inlet}
 use Rattle.scripted_link.specs.Inlets.{empty_count, inlet_ring, returned, taken}
 use Rattle.fed_hosts.specs.declared.ports.Port.{Port}

@@ -2,10 +2,10 @@
 use Rattle.std.proofs.Common.{◌≡◌, ℕ, ◌+◌, ◌<◌, ◌≤◌, ◌⊎◌, inl, inr, Some, List, ◌++◌, length, take, option_to_list, slice_get, slice_set, sym, ap, ◌∙◌, subst, arith}
 use Rattle.std.proofs.lemmas.Bool.{cases_lt}
 use Rattle.std.proofs.lemmas.Option.{same_Some}
-use Rattle.mdb_base.proofs.PlaceLaws.{found_next}
+use Rattle.mdb_base.proofs.ForCallers.{found_next}
 use Rattle.fed_rules.specs.declared.commands.Place.{Place}
 use Rattle.fed_rules.specs.declared.messages.Sent.{Sent}
-use Rattle.session_routes.proofs.Posts.{get_other, get_put}
+use Rattle.session_routes.proofs.ForCallers.{get_other, get_put}
 use Rattle.fed_hosts.specs.declared.ports.Port.{Port}
 use Rattle.fed_hosts.specs.Ports.{place_at, places_at, places_behind}
 

@@ -2,7 +2,7 @@
 use Rattle.std.proofs.Common.{Err, ◌≡◌, ℕ, Bool, false, Option, List, [], ◌∷◌, ◌++◌, map, append_assoc, refl, sym, ap, ◌∙◌, subst}
 use Rattle.mdb_base.specs.Counts.{HasCauseOf}
 use Rattle.mdb_base.specs.Words.{found, with_some}
-use Rattle.mdb_base.proofs.JoinLaws.{reverse_more}
+use Rattle.mdb_base.proofs.ForCallers.{reverse_more}
 use Rattle.fed_rules.specs.declared.answers.Answer.{Answer}
 use Rattle.fed_rules.specs.declared.commands.Command.{Command}
 use Rattle.fed_rules.specs.declared.commands.Stamped.{Stamped}
@@ -21,7 +21,7 @@ use Rattle.scripted_link.specs.declared.inlet.Inlet.{Inlet}
 use Rattle.scripted_link.specs.Inlets.{inlet_ring, returned, taken}
 use Rattle.scripted_link.specs.Outlets.{HasMovedOn}
 use Rattle.scripted_link.specs.Rings.{Wire}
-use Rattle.scripted_link.proofs.Waiting.{moved_same}
+use Rattle.scripted_link.proofs.ForCallers.{moved_same}
 use Rattle.fed_hosts.specs.declared.site_actor.SiteActor.{SiteActor}
 use Rattle.fed_hosts.specs.Carrying.{HasArmed, IsBesideLines}
 use Rattle.host_laws.specs.Hearing.{HasHeard, IsRead, Taking}

@@ -6,7 +6,7 @@ use Rattle.fed_rules.specs.declared.events.SiteEvent.TheVariants as Ev
 use Rattle.fed_rules.specs.Happenings.{Trip}
 use Rattle.fed_rules.specs.Site.{site_line}
 use Rattle.fed_rules.specs.SitePast.{SiteHappening, SitePast, trip}
-use Rattle.site_core.proofs.StopLaws.{trip_is, trip_line}
+use Rattle.site_core.proofs.ForCallers.{trip_is, trip_line}
 use Rattle.host_laws.specs.Plans.{SitePlan}
 use Rattle.host_laws.specs.Turns.{SiteTurn, is_due, past_of, trips_of}
 use Rattle.fed_hosts.proofs.Words.{none_not, some_not}

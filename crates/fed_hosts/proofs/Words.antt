@@ -3,8 +3,7 @@ use Rattle.std.proofs.Common.{◌≡◌, ℕ, suc, ◌+◌, ◌≤◌, Bool, tru
 use Rattle.std.specs.Prelude.{max, is_none, is_err, IfNone, OnOk}
 use Rattle.std.proofs.lemmas.List.{length-reverse}
 use Rattle.mdb_base.specs.Words.{how_many}
-use Rattle.mdb_base.proofs.JoinLaws.{reverse_more, length-map}
-use Rattle.mdb_base.proofs.TestLaws.{how_many_joined}
+use Rattle.mdb_base.proofs.ForCallers.{how_many_joined, length-map, reverse_more}
 
 pub length_turned : {A B : Type 0} (f : A → B) (xs : List A) → length (reverse (map f xs)) ≡ length xs
 length_turned f xs = length-reverse (map f xs) ∙ length-map f xs

@@ -3,8 +3,7 @@ use Rattle.std.proofs.Common.{◌≡◌, ℕ, ◌<◌, ◌^◌, List, [], ◌++�
 use Rattle.std.proofs.lemmas.List.{append_assoc, append-nil}
 use Rattle.byte_numbers.specs.Numbers.{number, ◌>>=◌}
 use Rattle.field_bytes.specs.Fields.{IsTid, tid_bytes, tid_at, decision_bytes, decision_at}
-use Rattle.field_bytes.proofs.Steps.{number_then}
-use Rattle.field_bytes.proofs.Laws.{tid_again, decision_again}
+use Rattle.field_bytes.proofs.ForCallers.{decision_again, number_then, tid_again}
 use Rattle.mdb_base.specs.declared.acts.PlainAct.{PlainAct}
 use Rattle.mdb_base.specs.declared.acts.PlainAct.TheVariants.{Read, Write}
 use Rattle.mdb_base.specs.declared.names.Tid.{Tid}

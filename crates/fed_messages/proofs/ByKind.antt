@@ -3,8 +3,8 @@ use Rattle.std.proofs.Common.{◌≡◌, ℕ, ◌==◌, Bool, true, false, cond,
 use Rattle.std.proofs.lemmas.Bool.{eqb-true}
 use Rattle.std.proofs.lemmas.List.{append_assoc}
 use Rattle.byte_numbers.specs.Numbers.{IsBytes, number, ◌>>=◌}
-use Rattle.byte_numbers.proofs.Numbers.{Takes, number_takes}
-use Rattle.field_bytes.proofs.Steps.{bind_some}
+use Rattle.byte_numbers.proofs.ForCallers.{Takes, number_takes}
+use Rattle.field_bytes.proofs.ForCallers.{bind_some}
 use Rattle.mdb_base.specs.Words.{Each}
 use Rattle.fed_messages.specs.Reading.{Kinds, Reading, by_kind, kind_at}
 

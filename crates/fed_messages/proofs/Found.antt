@@ -4,10 +4,9 @@ use Rattle.std.proofs.lemmas.Bool.{eqb-true}
 use Rattle.std.proofs.lemmas.List.{append-nil, nil_from_length}
 use Rattle.std.proofs.lemmas.Option.{same_Some}
 use Rattle.byte_numbers.specs.Numbers.{IsBytes, number}
-use Rattle.byte_numbers.proofs.Numbers.{Takes, number_takes}
+use Rattle.byte_numbers.proofs.ForCallers.{Takes, number_takes}
 use Rattle.field_bytes.specs.Fields.{IsTid, tid_bytes, decision_bytes}
-use Rattle.field_bytes.proofs.Steps.{bind_some, tested_some, takes_both}
-use Rattle.field_bytes.proofs.Laws.{tid_takes, decision_takes}
+use Rattle.field_bytes.proofs.ForCallers.{bind_some, decision_takes, takes_both, tested_some, tid_takes}
 use Rattle.mdb_base.specs.declared.acts.PlainAct.{PlainAct}
 use Rattle.mdb_base.specs.declared.names.Tid.{Tid}
 use Rattle.mdb_base.specs.declared.replies.Reply.{Reply}

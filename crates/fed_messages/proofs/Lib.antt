@@ -1,5 +1,6 @@
-pub mod Again
-pub mod ByKind
-pub mod Found
-pub mod Pieces
-pub mod Whole
+pub mod ForCallers
+mod Again
+mod ByKind
+mod Found
+mod Pieces
+mod Whole

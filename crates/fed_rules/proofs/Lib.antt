@@ -1,6 +1,7 @@
-pub mod Spelled
-pub mod Opened
-pub mod RunLines
+pub mod ForCallers
+mod Spelled
+mod Opened
+mod RunLines
 mod EmptySession
 mod FinishedAlone
 mod OneLocalTransaction
@@ -15,7 +16,7 @@ mod ReadUnderAPreparedIsInvalid
 mod SumWrapsAround
 mod AttemptsAreSpent
 mod ThreeProtocolsCommit
-pub mod OppositeTickets
+mod OppositeTickets
 mod CycleThroughLocals
 mod CommitsOutOfTicketOrder
 mod TicketIsHeld

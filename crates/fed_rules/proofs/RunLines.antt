@@ -3,7 +3,7 @@ use Rattle.std.proofs.Common.{◌≡◌, ℕ, ◌+◌, false, Option, Some, List
 use Rattle.std.proofs.lemmas.Bool.{cond-true, cond-false}
 use Rattle.mdb_base.specs.declared.names.Tid.{Tid}
 use Rattle.mdb_base.specs.Names.{same_tid}
-use Rattle.mdb_base.proofs.NameLaws.{same_tid-refl}
+use Rattle.mdb_base.proofs.ForCallers.{same_tid-refl}
 use Rattle.fed_rules.specs.Runs.{Start, EngineLine, Begins, Seals, Run, tid_of, changed, run_at, counter}
 use Rattle.fed_rules.specs.EngineLines.{IsSealed, IsRight}
 

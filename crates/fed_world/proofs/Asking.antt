@@ -6,11 +6,10 @@ use Rattle.mdb_base.specs.declared.names.Tid.{Tid}
 use Rattle.mdb_base.specs.declared.names.Tx.{Tx}
 use Rattle.mdb_base.specs.Names.{same_site}
 use Rattle.mdb_base.specs.Words.{given, item_at, map_some}
-use Rattle.mdb_base.proofs.OptionLaws.{some_parts, given_some, given_none}
-use Rattle.mdb_base.proofs.NameLaws.{same_site-refl}
+use Rattle.mdb_base.proofs.ForCallers.{given_none, given_some, same_site-refl, some_parts}
 use Rattle.order_laws.specs.Chains.{In}
-use Rattle.order_laws.proofs.InLaws.{item_at-in}
-use Rattle.rules_laws.proofs.Declared.{home-again, its-site}
+use Rattle.order_laws.proofs.ForCallers.{item_at-in}
+use Rattle.rules_laws.proofs.ForCallers.{home-again, its-site}
 use Rattle.fed_rules.specs.declared.answers.Answer.TheVariants as Say
 use Rattle.fed_rules.specs.declared.commands.Command.{Command}
 use Rattle.fed_rules.specs.declared.commands.Command.TheVariants as Cmd

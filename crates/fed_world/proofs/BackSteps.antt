@@ -7,9 +7,8 @@ use Rattle.mdb_base.specs.declared.names.Engine.{Engine}
 use Rattle.mdb_base.specs.declared.names.SiteId.{SiteId}
 use Rattle.mdb_base.specs.declared.rows.Put.{Put}
 use Rattle.mdb_base.specs.Words.{first_where}
-use Rattle.mdb_base.proofs.PlaceLaws.{slice_get-one}
-use Rattle.order_laws.proofs.InLaws.{slice_get-in}
-use Rattle.order_laws.proofs.Lists.{each_at}
+use Rattle.mdb_base.proofs.ForCallers.{slice_get-one}
+use Rattle.order_laws.proofs.ForCallers.{each_at, slice_get-in}
 use Rattle.record_fields.specs.Named.{IsSite}
 use Rattle.presumptions.specs.declared.Participant.{Participant}
 use Rattle.fed_rules.specs.declared.records.CoordRecord.{CoordRecord}
@@ -23,7 +22,7 @@ use Rattle.fed_rules.specs.Reopened.{opened_coordinator, opened_site}
 use Rattle.fed_rules.specs.Resumed.{plan_of}
 use Rattle.fed_rules.specs.Scenarios.{policy, protocols, sites}
 use Rattle.fed_rules.specs.SiteRecords.{Home}
-use Rattle.rules_laws.proofs.Declared.{home-again, its-site}
+use Rattle.rules_laws.proofs.ForCallers.{home-again, its-site}
 use Rattle.journal_disk.specs.Disk.{Image, Seen}
 use Rattle.actor_store.specs.declared.errors.StepErr.{StepErr}
 use Rattle.actor_store.specs.declared.errors.StepErr.TheVariants as Step_err
@@ -39,14 +38,13 @@ use Rattle.local_dbms.specs.Found.{found_programs}
 use Rattle.local_dbms.specs.Stands as Dbms
 use Rattle.site_core.specs.Found as Site
 use Rattle.site_core.specs.Stands.{IsOfKind}
-use Rattle.session_routes.proofs.Posts.{get_other, get_put}
+use Rattle.session_routes.proofs.ForCallers.{get_other, get_put}
 use Rattle.found_disks.specs.declared.errors.ReopenErr.{ReopenErr}
 use Rattle.found_disks.specs.declared.errors.ReopenErr.TheVariants as Err_is
 use Rattle.found_disks.specs.Faults.{faults_of}
 use Rattle.found_disks.specs.Finding.{FindsAs}
 use Rattle.found_disks.specs.Reading.{FailsAs, images_of}
-use Rattle.found_disks.proofs.Puts.{put_calm, put_rose, same_images}
-use Rattle.found_disks.proofs.Readings.{told_later}
+use Rattle.found_disks.proofs.ForCallers.{put_calm, put_rose, same_images, told_later}
 use Rattle.fed_world.specs.Reopening.{AreOnDisks, CoordinatorBack, IsDiskOrMemory}
 use Rattle.fed_world.proofs.DeclaredSites.{declared_ranged, site_home}
 use Rattle.fed_world.proofs.GoingBack.{AreBackTo, one_more_back, same_rule, sites_same}

@@ -6,7 +6,7 @@ use Rattle.mdb_base.specs.declared.names.SiteId.{SiteId}
 use Rattle.mdb_base.specs.Names.{same_site}
 use Rattle.mdb_base.specs.Rising.{IsRising}
 use Rattle.mdb_base.specs.Words.{Each, those}
-use Rattle.mdb_base.proofs.JoinLaws.{length-option}
+use Rattle.mdb_base.proofs.ForCallers.{length-option}
 use Rattle.order_laws.specs.Chains.{In}
 use Rattle.fed_rules.specs.declared.answers.Answer.{Answer}
 use Rattle.fed_rules.specs.declared.commands.Command.{Command}
@@ -47,7 +47,7 @@ use Rattle.fed_world.specs.declared.heard.Heard.{Heard}
 use Rattle.fed_world.specs.Seats.{SitesAt}
 use Rattle.fed_world.proofs.SeatLines.{Moves, one_message, sites_told}
 use Rattle.fed_world.proofs.SentPlaces.{sent_places}
-use Rattle.world_laws.proofs.Members.{SendsAmong}
+use Rattle.world_laws.proofs.ForCallers.{SendsAmong}
 use Rattle.fed_world.proofs.SessionRuns.{coordinator_among}
 use Rattle.fed_world.specs.declared.errors.WorldErr.{WorldErr}
 use Rattle.fed_world.specs.declared.world.World.{World}

@@ -3,19 +3,16 @@ use Rattle.std.proofs.Common.{◌≡◌, ℕ, zero, suc, Bool, true, false, cond
 use Rattle.mdb_base.specs.declared.names.SiteId.{SiteId}
 use Rattle.mdb_base.specs.Names.{same_site}
 use Rattle.mdb_base.specs.Words.{map_some}
-use Rattle.mdb_base.proofs.OptionLaws.{some_parts}
-use Rattle.mdb_base.proofs.ListLaws.{among_some}
-use Rattle.mdb_base.proofs.NameLaws.{same_site-equal, same_site-refl}
+use Rattle.mdb_base.proofs.ForCallers.{among_some, same_site-equal, same_site-refl, some_parts}
 use Rattle.presumptions.specs.declared.Participant.{Participant}
 use Rattle.order_laws.specs.Chains.{In}
-use Rattle.order_laws.proofs.Lists.{among_map, among_weaker}
-use Rattle.order_laws.proofs.InLaws.{slice_get-in}
+use Rattle.order_laws.proofs.ForCallers.{among_map, among_weaker, slice_get-in}
 use Rattle.fed_rules.specs.declared.scenario.Scenario.{Scenario}
 use Rattle.fed_rules.specs.Scenarios.{home_of, protocols, sites}
 use Rattle.fed_rules.specs.SiteRecords.{Home}
 use Rattle.global_exec.specs.Pasts.{IsAmong}
 use Rattle.session_routes.specs.Routes.{place_in}
-use Rattle.world_laws.proofs.Sent.{homed, homeless}
+use Rattle.world_laws.proofs.ForCallers.{homed, homeless}
 
 -- at the place of a site the site stands
 pub at_its_place : (ss : List SiteId) (site : SiteId) (place : ℕ) → place_in ss site ≡ Some place → slice_get ss place ≡ Some site

@@ -7,12 +7,10 @@ use Rattle.mdb_base.specs.Names.{same_key, same_site}
 use Rattle.mdb_base.specs.Rising.{IsRising}
 use Rattle.mdb_base.specs.Rows.{with_row}
 use Rattle.mdb_base.specs.Words.{Each, each_of, first_where, how_many}
-use Rattle.mdb_base.proofs.ListLaws.{each_inserted}
-use Rattle.mdb_base.proofs.NameLaws.{same_site-equal}
-use Rattle.mdb_base.proofs.EachLaws.{each_of_mapped}
+use Rattle.mdb_base.proofs.ForCallers.{each_inserted, each_of_mapped, same_site-equal}
 use Rattle.presumptions.specs.declared.Participant.{Participant}
 use Rattle.order_laws.specs.Chains.{In}
-use Rattle.order_laws.proofs.Lists.{each_at, first_where_some}
+use Rattle.order_laws.proofs.ForCallers.{each_at, first_where_some}
 use Rattle.record_fields.specs.Named.{IsSite}
 use Rattle.fed_rules.specs.declared.scenario.ItemLine.{ItemLine}
 use Rattle.fed_rules.specs.declared.scenario.Scenario.{Scenario}
@@ -20,9 +18,9 @@ use Rattle.fed_rules.specs.declared.scenario.SiteLine.{SiteLine}
 use Rattle.fed_rules.specs.Plans.{IsScenario, declares, has_site, is_between}
 use Rattle.fed_rules.specs.Scenarios.{home_in, home_of, items_of, protocols, protocols_in, sites}
 use Rattle.fed_rules.specs.SiteRecords.{Home}
-use Rattle.world_laws.proofs.Sent.{homed, homeless}
-use Rattle.rules_laws.proofs.SendsRise.{sites_rise}
-use Rattle.commit_laws.proofs.Declared.{by_site, members_rise}
+use Rattle.world_laws.proofs.ForCallers.{homed, homeless}
+use Rattle.rules_laws.proofs.ForCallers.{sites_rise}
+use Rattle.commit_laws.proofs.ForCallers.{by_site, members_rise}
 use Rattle.local_dbms.specs.Stands.{home_from}
 
 -- ---- lines and homes

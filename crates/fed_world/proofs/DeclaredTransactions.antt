@@ -5,9 +5,9 @@ use Rattle.mdb_base.specs.declared.acts.Step.{Step}
 use Rattle.mdb_base.specs.declared.names.SiteId.{SiteId}
 use Rattle.mdb_base.specs.Names.{same_site}
 use Rattle.mdb_base.specs.Words.{Among, Each, each_of}
-use Rattle.mdb_base.proofs.ListLaws.{among_some, some_among}
+use Rattle.mdb_base.proofs.ForCallers.{among_some, some_among}
 use Rattle.presumptions.specs.declared.Participant.{Participant}
-use Rattle.federation_laws.proofs.Declared.{put-in, put-kept}
+use Rattle.federation_laws.proofs.ForCallers.{put-in, put-kept}
 use Rattle.fed_rules.specs.declared.scenario.Scenario.{Scenario}
 use Rattle.fed_rules.specs.declared.scenario.SiteLine.{SiteLine}
 use Rattle.fed_rules.specs.declared.scenario.TxLine.{TxLine}

@@ -5,7 +5,7 @@ use Rattle.mdb_base.specs.declared.names.SiteId.{SiteId}
 use Rattle.fed_rules.specs.Scenarios.{home_of}
 use Rattle.fed_rules.specs.Sessions.{Session}
 use Rattle.journal_disk.specs.Disk.{Seen}
-use Rattle.session_routes.proofs.Posts.{get_other, get_put, length_set}
+use Rattle.session_routes.proofs.ForCallers.{get_other, get_put, length_set}
 use Rattle.fed_world.specs.Worlds.{AreDisks, OnDisk}
 
 -- what is seen of a list in which one item was put

@@ -8,11 +8,9 @@ use Rattle.std.proofs.lemmas.List.Kept.{IsStrictlySortedBy-dedup}
 use Rattle.mdb_base.specs.declared.names.Tid.{Tid}
 use Rattle.mdb_base.specs.Names.{same_tid, tid_before, tid_cmp}
 use Rattle.mdb_base.specs.Words.{Each, those}
-use Rattle.mdb_base.proofs.JoinLaws.{reverse_more}
-use Rattle.mdb_base.proofs.NameLaws.{same_tid-equal}
-use Rattle.mdb_base.proofs.NameOrders.{less_before, tid_ties, tids_total}
+use Rattle.mdb_base.proofs.ForCallers.{less_before, reverse_more, same_tid-equal, tid_ties, tids_total}
 use Rattle.order_laws.specs.Chains.{In}
-use Rattle.order_laws.proofs.InLaws.{append_in, in_append}
+use Rattle.order_laws.proofs.ForCallers.{append_in, in_append}
 use Rattle.fed_rules.specs.declared.records.CoordRecord.{CoordRecord}
 use Rattle.fed_rules.specs.declared.records.CoordRecord.TheVariants as Rec
 use Rattle.fed_rules.specs.declared.records.SiteRecord.{SiteRecord}
@@ -27,15 +25,14 @@ use Rattle.fed_rules.specs.Reopened.{commit_read, end_read, initiation_read, is_
 use Rattle.fed_rules.specs.Reopened as Reopened
 use Rattle.fed_rules.specs.Resumed.{all_names, begun, names, sites_name}
 use Rattle.fed_rules.specs.Usable as Usable
-use Rattle.rules_laws.proofs.EachAttempt.{each_distinct, each_in, in_each, in_with, with_in}
-use Rattle.rules_laws.proofs.RisingLists.{Rises, in_rising, rises_one, rising_in, rising_rises}
-use Rattle.coord_laws.proofs.CoordOpened.{read_is}
+use Rattle.rules_laws.proofs.ForCallers.{Rises, each_distinct, each_in, in_each, in_rising, in_with, rises_one, rising_in, rising_rises, with_in}
+use Rattle.coord_laws.proofs.ForCallers.{read_is}
 use Rattle.journal_disk.specs.Disk.{Image}
 use Rattle.frame_journal.specs.Journal.{Kept, records}
 use Rattle.coord_journal.specs.Spelling as Coordinators
 use Rattle.site_journal.specs.Spelling as Sites
-use Rattle.coord_tables.proofs.Listings.{sorted_rising}
-use Rattle.usable_journals.proofs.Recording.{read_first}
+use Rattle.coord_tables.proofs.ForCallers.{sorted_rising}
+use Rattle.usable_journals.proofs.ForCallers.{read_first}
 use Rattle.found_disks.specs.declared.reading.Journals.{Journals}
 use Rattle.found_disks.specs.Finding.{found_in, journal_on, sites_from, unless_empty}
 use Rattle.fed_world.specs.FoundBegun.{committed_names, coord_names, coordinator_tids, first_names, open_names, site_tids, sites_tids}

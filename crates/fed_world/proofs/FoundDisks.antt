@@ -5,9 +5,9 @@ use Rattle.std.specs.List.{AllByRecursion}
 use Rattle.mdb_base.specs.Rising.{IsRising}
 use Rattle.mdb_base.specs.Words.{Each, with_some}
 use Rattle.mdb_base.specs.Names.{same_site}
-use Rattle.mdb_base.proofs.NameLaws.{same_site-refl}
+use Rattle.mdb_base.proofs.ForCallers.{same_site-refl}
 use Rattle.order_laws.specs.Chains.{In}
-use Rattle.order_laws.proofs.Lists.{each_from}
+use Rattle.order_laws.proofs.ForCallers.{each_from}
 use Rattle.record_fields.specs.Sums.{a_doubtful}
 use Rattle.fed_rules.specs.declared.records.SiteRecord.{SiteRecord}
 use Rattle.fed_rules.specs.declared.records.SiteRecord.TheVariants as Rec
@@ -21,13 +21,13 @@ use Rattle.fed_rules.specs.Story.{home_found}
 use Rattle.fed_rules.specs.Usable.{IsOfSite, IsUsableSite, home_of_first}
 use Rattle.journal_disk.specs.Disk.{Image}
 use Rattle.journal_disk.specs.Frames.{AreWhole}
-use Rattle.journal_rules.proofs.Journals.{all_reverse}
+use Rattle.journal_rules.proofs.ForCallers.{all_reverse}
 use Rattle.frame_journal.specs.Journal.{Kept, records}
 use Rattle.frame_journal.specs.Records.{Entry, entry_frame, values}
 use Rattle.site_history.specs.FoundSites.{WritesRise}
 use Rattle.site_journal.specs.Spelling as Sites
 use Rattle.found_laws.specs.FoundSessions.{IsOfFormat, RowsRise}
-use Rattle.found_laws.proofs.FoundJournals.{same_home}
+use Rattle.found_laws.proofs.ForCallers.{same_home}
 use Rattle.usable_journals.specs.Disks.{AreUsableFrom, IsUsableDisk}
 use Rattle.found_disks.specs.Finding.{journal_on, sites_from, unless_empty}
 use Rattle.found_disks.specs.Reading.{AreReadFrom, HasBytes, IsReadFrom}

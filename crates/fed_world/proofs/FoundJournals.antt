@@ -11,8 +11,8 @@ use Rattle.fed_rules.specs.Usable.{IsUsableCoordinator, IsUsableSite, home_of_fi
 use Rattle.journal_disk.specs.Disk.{Image}
 use Rattle.frame_journal.specs.Journal.{Kept, records}
 use Rattle.frame_journal.specs.Records.{entry_frame, spelled}
-use Rattle.frame_journal.proofs.Keeping.{length-frames}
-use Rattle.journal_rules.proofs.Journals.{all_reverse}
+use Rattle.frame_journal.proofs.ForCallers.{length-frames}
+use Rattle.journal_rules.proofs.ForCallers.{all_reverse}
 use Rattle.actor_store.specs.Found.{IsFoundIn}
 use Rattle.coord_journal.specs.Spelling as Coordinators
 use Rattle.site_journal.specs.Spelling as Sites

@@ -2,7 +2,7 @@
 use Rattle.std.proofs.Common.{◌≡◌, ◌+◌, ◌<◌, ℕ, Some, None, Option, List, [], ◌∷◌, ◌++◌, get_or, length, map, option_to_list, reverse, take, refl, sym, ◌∙◌, ap, subst}
 use Rattle.std.proofs.lemmas.Option.{slice_get_read}
 use Rattle.mdb_base.specs.declared.names.SiteId.{SiteId}
-use Rattle.mdb_base.proofs.PlaceLaws.{found_next}
+use Rattle.mdb_base.proofs.ForCallers.{found_next}
 use Rattle.mdb_base.specs.Words.{map_some, with_some}
 use Rattle.fed_rules.specs.declared.records.SiteRecord.{SiteRecord}
 use Rattle.fed_rules.specs.declared.scenario.SiteLine.{SiteLine}
@@ -17,11 +17,11 @@ use Rattle.journal_disk.specs.Disk.{Image}
 use Rattle.frame_journal.specs.Journal.{Kept, records}
 use Rattle.site_journal.specs.Spelling as Sites
 use Rattle.found_laws.specs.FoundSessions.{AreUsable}
-use Rattle.found_laws.proofs.FoundSessions.{plan_sites}
+use Rattle.found_laws.proofs.ForCallers.{plan_sites}
 use Rattle.session_routes.specs.Routes.{IsRouted}
 use Rattle.found_disks.specs.declared.reading.Journals.{Journals}
 use Rattle.found_disks.specs.Finding.{found_in, journal_on, sites_from, unless_empty}
-use Rattle.found_disks.proofs.UsableFinds.{first_reversed}
+use Rattle.found_disks.proofs.ForCallers.{first_reversed}
 use Rattle.fed_world.specs.declared.reopening.Plan.{Plan}
 use Rattle.fed_world.specs.Reopening.{IsPlanOf, line_by, lines_by, of_sites}
 use Rattle.fed_world.specs.SettingUp.{IsNewChannel, IsNewMarks}

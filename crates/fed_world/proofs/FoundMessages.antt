@@ -5,12 +5,9 @@ use Rattle.mdb_base.specs.declared.names.Tid.{Tid}
 use Rattle.mdb_base.specs.declared.names.Tx.{Tx}
 use Rattle.mdb_base.specs.Names.{same_site}
 use Rattle.mdb_base.specs.Words.{Among, Each}
-use Rattle.mdb_base.proofs.EachLaws.{among_append, among_split}
-use Rattle.mdb_base.proofs.JoinLaws.{append_nil}
-use Rattle.mdb_base.proofs.NameLaws.{same_tid-refl}
-use Rattle.mdb_base.proofs.OptionLaws.{some_parts}
+use Rattle.mdb_base.proofs.ForCallers.{among_append, among_split, append_nil, same_tid-refl, some_parts}
 use Rattle.order_laws.specs.Chains.{In}
-use Rattle.order_laws.proofs.Lists.{each_at}
+use Rattle.order_laws.proofs.ForCallers.{each_at}
 use Rattle.field_bytes.specs.Fields.{IsTid}
 use Rattle.presumptions.specs.declared.Decision.{Decision}
 use Rattle.presumptions.specs.declared.Participant.{Participant}
@@ -36,31 +33,13 @@ use Rattle.fed_rules.specs.SiteRecords.{Home}
 use Rattle.fed_rules.specs.Site_of.{about}
 use Rattle.fed_rules.specs.Story.{AtCoordinator, AtSite, Happened, Nowhere, Story, coord_past, happens, past_of, sends_from, sends_to, sent_from, sent_to, story_in, with_coordinator}
 use Rattle.fed_rules.specs.Usable.{AreUnnamed, IsAttemptOf, coord_read as read_records}
-use Rattle.coord_laws.proofs.Facts.{Known, Now, Presumed, IsTelling}
-use Rattle.coord_laws.proofs.Lines.{coord_lines}
-use Rattle.coord_laws.proofs.Sound.{CoordSound, IsBegun}
-use Rattle.commit_laws.proofs.AgreeCoord.{told-to}
-use Rattle.commit_laws.proofs.FoundSessions.{session_sound}
-use Rattle.commit_laws.proofs.Links.{CoordCame, IsNext, linked, member_of}
+use Rattle.coord_laws.proofs.ForCallers.{CoordSound, IsBegun, IsTelling, Known, Now, Presumed, begins_go, begun_in, coord_lines, names_declared, opened_begun, read_is}
+use Rattle.commit_laws.proofs.ForCallers.{CoordCame, IsNext, Says, linked, linked-here, member_of, protocols_rise, session_sound, site-lines, told-to}
 use Rattle.found_laws.specs.FoundSessions.{AreUsable, IsOfFormat}
-use Rattle.found_laws.proofs.CoordGentle.{IsDecide, closed_standing, decisions_alone, each_here}
-use Rattle.found_laws.proofs.FoundSessions.{begins as begins_so, fits, nobody_on, plan_sites}
-use Rattle.found_laws.proofs.Idle.{begins_nothing, idle}
-use Rattle.coord_laws.proofs.Begun.{begun_in}
-use Rattle.coord_laws.proofs.CoordOpened.{read_is}
-use Rattle.coord_laws.proofs.OpenedPasts.{opened_begun}
-use Rattle.coord_laws.proofs.Sound.{begins_go}
-use Rattle.coord_laws.proofs.UsableCoordinators.{names_declared}
-use Rattle.commit_laws.proofs.Declared.{protocols_rise}
-use Rattle.commit_laws.proofs.Links.{linked-here}
-use Rattle.commit_laws.proofs.SiteFacts.{Says}
-use Rattle.commit_laws.proofs.SiteLines.{site-lines}
+use Rattle.found_laws.proofs.ForCallers.{IsDecide, begins as begins_so, begins_nothing, closed_standing, decisions_alone, each_here, fits, idle, nobody_on, plan_sites, rise_all, session_begins}
 use Rattle.fed_rules.specs.Coord.{coord_line}
 use Rattle.fed_rules.specs.Reopened.{opened_coordinator}
-use Rattle.found_laws.proofs.Opening.{session_begins}
-use Rattle.found_laws.proofs.PlanSites.{rise_all}
-use Rattle.rules_laws.proofs.CoordPasts.{BeginsNothing}
-use Rattle.rules_laws.proofs.EachAttempt.{with_in}
+use Rattle.rules_laws.proofs.ForCallers.{BeginsNothing, with_in}
 use Rattle.site_journal.specs.Spelling.{IsRecord}
 use Rattle.local_dbms.specs.Found.{found_programs}
 use Rattle.local_dbms.specs.Stands.{OwnPrograms, own_programs}

@@ -7,9 +7,9 @@ use Rattle.mdb_base.specs.declared.names.Tid.{Tid}
 use Rattle.mdb_base.specs.declared.names.Tx.{Tx}
 use Rattle.mdb_base.specs.Names.{same_tx}
 use Rattle.mdb_base.specs.Words.{Among, Each}
-use Rattle.mdb_base.proofs.NameLaws.{same_site-refl, same_tx-refl}
+use Rattle.mdb_base.proofs.ForCallers.{append_each, same_site-refl, same_tx-refl}
 use Rattle.order_laws.specs.Chains.{In}
-use Rattle.order_laws.proofs.Lists.{each_at}
+use Rattle.order_laws.proofs.ForCallers.{each_at}
 use Rattle.record_fields.specs.Sums.{MaybeFits, a_doubtful}
 use Rattle.field_bytes.specs.Fields.{IsTid}
 use Rattle.fed_rules.specs.declared.commands.Command.{Command}
@@ -28,32 +28,20 @@ use Rattle.fed_rules.specs.SiteSums.{carried}
 use Rattle.fed_rules.specs.Story.{home_found, past_of, story_in}
 use Rattle.fed_rules.specs.Usable.{AreParted, HaveSums, IsGlobalOf, IsLocalOf, IsOfSite, IsUsableSite, SumsFit, counted, home_of_first}
 use Rattle.rules_laws.specs.Durable.{IsFirm}
-use Rattle.commit_laws.proofs.AgreeSite.{new-prepared}
-use Rattle.commit_laws.proofs.SiteFacts.{IsSealing}
-use Rattle.commit_laws.proofs.SiteLines.{site-lines}
-use Rattle.commit_laws.proofs.SiteWork.{held-prepared}
+use Rattle.commit_laws.proofs.ForCallers.{IsSealing, held-prepared, new-prepared, site-lines}
 use Rattle.commit_laws.specs.Records.{IsLooseEnded, IsPrepared}
-use Rattle.mdb_base.proofs.ListLaws.{append_each}
-use Rattle.rules_laws.proofs.OpenedDisks.{expanded}
-use Rattle.site_history.proofs.Histories.{no_local_doubt}
-use Rattle.site_history.proofs.OpenedPasts.{opened_is}
-use Rattle.site_history.proofs.OpenedSites.{torn_short}
-use Rattle.site_history.proofs.ReadSums.{foundation}
-use Rattle.site_history.proofs.WellKept.{well_on}
+use Rattle.rules_laws.proofs.ForCallers.{expanded}
+use Rattle.site_history.proofs.ForCallers.{all_sums, foundation, no_local_doubt, opened_is, torn_short, well_on}
 use Rattle.site_journal.specs.Spelling.{IsRecord}
 use Rattle.found_laws.specs.FoundSessions.{AreOfDisks, AreUsable, IsOfFormat}
 use Rattle.found_laws.specs.Resuming.{IsResuming}
-use Rattle.found_laws.proofs.FoundSessions.{IsResumedPast, all_sorted, resumes}
-use Rattle.found_laws.proofs.FoundJournals.{same_home}
+use Rattle.found_laws.proofs.ForCallers.{IsResumedPast, all_sorted, resumes, same_home}
 use Rattle.site_core.specs.Made.{IsOpened, was_local}
-use Rattle.site_core.proofs.MadeLaws.{lawful}
-use Rattle.site_core.proofs.OpenedOnce.{named_apart}
-use Rattle.site_core.proofs.OverLaws.{opened_firm}
-use Rattle.site_history.proofs.OpenedSums.{all_sums}
+use Rattle.site_core.proofs.ForCallers.{lawful, named_apart, opened_firm}
 use Rattle.presumptions.specs.declared.Decision.TheVariants as Decided
 use Rattle.fed_rules.specs.Reopened.{all_named}
 use Rattle.local_dbms.specs.Found.{found_programs}
-use Rattle.local_dbms.proofs.FoundLaws.{are_found}
+use Rattle.local_dbms.proofs.ForCallers.{are_found}
 use Rattle.fed_world.specs.Beginnings.{is_at, journal_at}
 
 -- ---- which journal is found at a site

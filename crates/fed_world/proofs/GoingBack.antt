@@ -6,7 +6,7 @@ use Rattle.mdb_base.specs.declared.names.SiteId.{SiteId}
 use Rattle.mdb_base.specs.Rising.{IsRising}
 use Rattle.mdb_base.specs.Words.{first_where}
 use Rattle.std.proofs.lemmas.List.{length_push}
-use Rattle.mdb_base.proofs.PlaceLaws.{slice_get-one}
+use Rattle.mdb_base.proofs.ForCallers.{slice_get-one}
 use Rattle.fed_rules.specs.declared.records.SiteRecord.{SiteRecord}
 use Rattle.fed_rules.specs.declared.scenario.Scenario.{Scenario}
 use Rattle.fed_rules.specs.declared.scenario.SiteLine.{SiteLine}
@@ -24,8 +24,7 @@ use Rattle.local_dbms.specs.Found.{found_programs}
 use Rattle.local_dbms.specs.Stands as Dbms
 use Rattle.local_dbms.specs.Stands.{home_from}
 use Rattle.site_core.specs.Found as Site
-use Rattle.session_routes.proofs.Places.{snoc_before, snoc_get}
-use Rattle.session_routes.proofs.Posts.{get_other, get_put}
+use Rattle.session_routes.proofs.ForCallers.{get_other, get_put, snoc_before, snoc_get}
 use Rattle.fed_world.specs.Reopening.{AreBack, EachBack, GoesBack}
 use Rattle.fed_world.specs.Worlds.{OnDisk}
 use Rattle.fed_world.proofs.DeclaredSites.{declared_rise, line_home}

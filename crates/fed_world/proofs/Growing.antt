@@ -12,7 +12,7 @@ use Rattle.fed_rules.specs.Site.{site_line}
 use Rattle.fed_rules.specs.SiteRecords.{Home}
 use Rattle.fed_rules.specs.Story.{Story, Told, coord_requested, past_of, requested, sends_from, sends_to, sent_from, sent_to}
 use Rattle.fed_rules.specs.Sessions.{Session}
-use Rattle.world_laws.proofs.SiteSays.{sites_few}
+use Rattle.world_laws.proofs.ForCallers.{sites_few}
 use Rattle.fed_world.specs.Seats.{AreFew}
 use Rattle.fed_world.specs.Worlds.{HasRoom}
 use Rattle.fed_world.specs.Beginnings.{made_up}

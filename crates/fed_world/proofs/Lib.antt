@@ -1,44 +1,45 @@
-pub mod ActorHears
-pub mod Asking
-pub mod BackSteps
-pub mod Broken
-pub mod CoordHeard
-pub mod DeclaredPlaces
-pub mod DeclaredSites
-pub mod DeclaredTransactions
-pub mod Disks
-pub mod Faults
-pub mod FewCommands
-pub mod FoundBegun
-pub mod FoundDisks
-pub mod FoundJournals
-pub mod FoundLines
-pub mod FoundMessages
-pub mod FoundSites
-pub mod FreshWorlds
-pub mod Gathered
-pub mod GoingBack
-pub mod Growing
-pub mod Lookups
-pub mod MarkedSeats
-pub mod NewWorlds
-pub mod Nowhere
-pub mod Pairs
-pub mod Recalled
-pub mod ReopenedWorlds
-pub mod Reopens
-pub mod Reports
-pub mod RightLines
-pub mod Routed
-pub mod SeatHears
-pub mod SeatLines
-pub mod SeatsByPlace
-pub mod SeatsKept
-pub mod SeenDisks
-pub mod SentPlaces
-pub mod SessionParts
-pub mod SessionRuns
-pub mod SetUpSteps
-pub mod SetUps
-pub mod SiteAsked
-pub mod SiteHeard
+pub mod ForCallers
+mod ActorHears
+mod Asking
+mod BackSteps
+mod Broken
+mod CoordHeard
+mod DeclaredPlaces
+mod DeclaredSites
+mod DeclaredTransactions
+mod Disks
+mod Faults
+mod FewCommands
+mod FoundBegun
+mod FoundDisks
+mod FoundJournals
+mod FoundLines
+mod FoundMessages
+mod FoundSites
+mod FreshWorlds
+mod Gathered
+mod GoingBack
+mod Growing
+mod Lookups
+mod MarkedSeats
+mod NewWorlds
+mod Nowhere
+mod Pairs
+mod Recalled
+mod ReopenedWorlds
+mod Reopens
+mod Reports
+mod RightLines
+mod Routed
+mod SeatHears
+mod SeatLines
+mod SeatsByPlace
+mod SeatsKept
+mod SeenDisks
+mod SentPlaces
+mod SessionParts
+mod SessionRuns
+mod SetUpSteps
+mod SetUps
+mod SiteAsked
+mod SiteHeard

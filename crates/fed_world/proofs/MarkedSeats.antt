@@ -7,14 +7,10 @@ use Rattle.fed_rules.specs.Reopened.{first_of, opened_site}
 use Rattle.fed_rules.specs.SitePast.{SiteHappening, SitePast, disk}
 use Rattle.fed_rules.specs.SiteRecords.{Home, site_frame}
 use Rattle.fed_rules.specs.Usable.{home_of_first}
-use Rattle.rules_laws.proofs.Durable.{whole_all}
-use Rattle.rules_laws.proofs.SiteRecords.{bytes-more}
+use Rattle.rules_laws.proofs.ForCallers.{bytes-more, whole_all}
 use Rattle.site_core.specs.Made.{IsGoingOn, IsOpened}
-use Rattle.site_core.proofs.OpenedDisk.{stands_behind, trimmed_off}
-use Rattle.site_core.proofs.OverLaws.{opened_firm}
-use Rattle.session_report.proofs.LineForms.{IsUnmarked}
-use Rattle.session_report.proofs.LineMarks.{marked_first, marked_line}
-use Rattle.session_report.proofs.MarkedDisks.{IsMarked}
+use Rattle.site_core.proofs.ForCallers.{opened_firm, stands_behind, trimmed_off}
+use Rattle.session_report.proofs.ForCallers.{IsMarked, IsUnmarked, marked_first, marked_line}
 
 opened_marked : (home : Home) (past : SitePast) → IsOpened home past → IsMarked (disk home past)
 opened_marked home past o = subst (λ (p : SitePast). IsMarked (disk home p)) (sym o.is) (by_records o.journal.records o.journal.torn o.is_home)

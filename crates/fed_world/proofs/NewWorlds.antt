@@ -1,10 +1,9 @@
 -- A world whose sites were just set up stands for no line.
 use Rattle.std.proofs.Common.{◌≡◌, Bool, false, IsTrue, Option, Some, None, inl, List, [], length, map, reverse, slice_get, refl, sym, ◌∙◌, ap, subst, arith}
 use Rattle.mdb_base.specs.declared.names.SiteId.{SiteId}
-use Rattle.mdb_base.proofs.PlaceLaws.{slice_get-there}
+use Rattle.mdb_base.proofs.ForCallers.{slice_get-there}
 use Rattle.order_laws.specs.Chains.{In}
-use Rattle.order_laws.proofs.Lists.{each_at}
-use Rattle.order_laws.proofs.InLaws.{slice_get-in}
+use Rattle.order_laws.proofs.ForCallers.{each_at, slice_get-in}
 use Rattle.record_fields.specs.Named.{IsSite}
 use Rattle.fed_rules.specs.declared.commands.Line.{Line}
 use Rattle.fed_rules.specs.declared.scenario.Scenario.{Scenario}
@@ -13,8 +12,8 @@ use Rattle.fed_rules.specs.Found.{nothing}
 use Rattle.fed_rules.specs.Sessions.{fresh}
 use Rattle.fed_rules.specs.Scenarios.{home_of, sites}
 use Rattle.fed_rules.specs.SiteRecords.{Home}
-use Rattle.rules_laws.proofs.Declared.{its-site}
-use Rattle.world_laws.proofs.Sent.{homeless}
+use Rattle.rules_laws.proofs.ForCallers.{its-site}
+use Rattle.world_laws.proofs.ForCallers.{homeless}
 use Rattle.journal_disk.specs.Disk.{IsSound, Seen}
 use Rattle.any_engine.specs.declared.engine.AnyEngine.{AnyEngine}
 use Rattle.local_dbms.specs.declared.dbms.LocalDbms.{LocalDbms}

@@ -2,9 +2,9 @@
 use Rattle.std.proofs.Common.{◌≡◌, ℕ, zero, suc, ◌+◌, ◌<◌, Some, List, [], ◌∷◌, ◌++◌, length, take, drop, slice_get, inl, inr, refl, sym, ◌∙◌, ap, subst, add-one, arith}
 use Rattle.std.proofs.lemmas.Option.{slice_get_within}
 use Rattle.std.proofs.lemmas.List.{length_push}
-use Rattle.mdb_base.proofs.PlaceLaws.{slice_get-one}
+use Rattle.mdb_base.proofs.ForCallers.{slice_get-one}
 use Rattle.order_laws.specs.Chains.{In}
-use Rattle.session_routes.proofs.Places.{snoc_before, snoc_get}
+use Rattle.session_routes.proofs.ForCallers.{snoc_before, snoc_get}
 use Rattle.fed_world.proofs.SeenDisks.{by_place}
 
 -- the fact holds of the items at each place

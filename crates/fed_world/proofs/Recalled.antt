@@ -10,10 +10,10 @@ use Rattle.journal_disk.specs.Disk.{Seen}
 use Rattle.any_engine.specs.declared.engine.AnyEngine.{AnyEngine}
 use Rattle.any_engine.specs.Stands as Engines
 use Rattle.conservative_take.specs.AnyPolicies.{policy_is}
-use Rattle.global_manager.proofs.Fit as Manager
+use Rattle.global_manager.proofs.ForCallers as Manager
 use Rattle.local_dbms.specs.declared.dbms.LocalDbms.{LocalDbms}
 use Rattle.local_dbms.specs.Stands.{OwnPrograms}
-use Rattle.local_dbms.proofs.Fit as Dbms
+use Rattle.local_dbms.proofs.ForCallers as Dbms
 use Rattle.session_report.specs.declared.marks.Marks.{Marks}
 use Rattle.session_routes.specs.declared.traffic.Traffic.{Traffic}
 use Rattle.fed_world.specs.Seats.{OfDbms, SitesAt}

@@ -7,10 +7,9 @@ use Rattle.std.proofs.lemmas.Option.{slice_get_within}
 use Rattle.mdb_base.specs.declared.names.SiteId.{SiteId}
 use Rattle.mdb_base.specs.declared.names.Tid.{Tid}
 use Rattle.mdb_base.specs.Words.{Each}
-use Rattle.mdb_base.proofs.PlaceLaws.{slice_get-one}
+use Rattle.mdb_base.proofs.ForCallers.{slice_get-one}
 use Rattle.order_laws.specs.Chains.{In}
-use Rattle.order_laws.proofs.InLaws.{slice_get-in}
-use Rattle.order_laws.proofs.Lists.{each_from}
+use Rattle.order_laws.proofs.ForCallers.{each_from, slice_get-in}
 use Rattle.fed_rules.specs.declared.commands.Line.{Line}
 use Rattle.fed_rules.specs.declared.events.SiteEvent.{SiteEvent}
 use Rattle.fed_rules.specs.declared.records.CoordRecord.{CoordRecord}
@@ -27,7 +26,7 @@ use Rattle.fed_rules.specs.SitePast.{SitePast}
 use Rattle.fed_rules.specs.SiteRecords.{Home}
 use Rattle.fed_rules.specs.Story.{coord_past, first_story, past_of}
 use Rattle.fed_rules.specs.Usable.{IsOfSite, IsUsableCoordinator, IsUsableSite, home_of_first}
-use Rattle.rules_laws.proofs.Declared.{home-again, its-site}
+use Rattle.rules_laws.proofs.ForCallers.{home-again, its-site}
 use Rattle.journal_disk.specs.Disk.{Image, Seen}
 use Rattle.journal_disk.specs.Frames.{AreWhole}
 use Rattle.frame_journal.specs.Journal.{Kept, records}
@@ -42,19 +41,17 @@ use Rattle.local_dbms.specs.Found.{found_programs}
 use Rattle.local_dbms.specs.Stands as Dbms
 use Rattle.local_dbms.specs.Stands.{OwnPrograms}
 use Rattle.found_laws.specs.FoundSessions.{AreUsable, IsOfFormat}
-use Rattle.found_laws.proofs.FoundSessions.{IsResumedPast, resumes}
-use Rattle.found_laws.proofs.Opening.{session_begins}
+use Rattle.found_laws.proofs.ForCallers.{IsResumedPast, resumes, session_begins}
 use Rattle.session_report.specs.declared.marks.Marks.{Marks}
 use Rattle.session_report.specs.Marks.{kept_marks}
 use Rattle.session_routes.specs.Routes.{IsRouted}
 use Rattle.session_routes.specs.declared.traffic.Traffic.{Traffic}
 use Rattle.site_core.specs.Found as Site
 use Rattle.site_journal.specs.Spelling as Sites
-use Rattle.found_disks.proofs.InRange.{found_range}
+use Rattle.found_disks.proofs.ForCallers.{bytes_there, found_range}
 use Rattle.found_disks.specs.declared.reading.Journals.{Journals}
 use Rattle.found_disks.specs.Finding.{NamesOf, found_in, journal_on}
 use Rattle.found_disks.specs.Reading.{AreRead, HasBytes, IsReadFrom, images_of}
-use Rattle.found_disks.proofs.ForCallers.{bytes_there}
 use Rattle.fed_world.specs.declared.reopening.Plan.{Plan}
 use Rattle.fed_world.specs.declared.world.World.{World}
 use Rattle.fed_world.specs.Asks.{terms_of}

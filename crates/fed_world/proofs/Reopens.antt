@@ -4,7 +4,7 @@ use Rattle.journal_disk.specs.Disk.{Seen}
 use Rattle.found_disks.specs.declared.errors.ReopenErr.{ReopenErr}
 use Rattle.found_disks.specs.Faults.{faults_of}
 use Rattle.found_disks.specs.Reading.{FaultsTell, images_of}
-use Rattle.found_disks.proofs.Readings.{told_later}
+use Rattle.found_disks.proofs.ForCallers.{told_later}
 use Rattle.fed_world.specs.declared.world.World.{World}
 use Rattle.fed_world.specs.Reopening.{GoesOnFrom, IsDiskOrMemory, ReopensAs}
 use Rattle.fed_world.proofs.BackSteps.{disk_or_memory}

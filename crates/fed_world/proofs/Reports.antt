@@ -6,7 +6,7 @@ use Rattle.mdb_base.specs.declared.names.Tid.{Tid}
 use Rattle.mdb_base.specs.Names.{same_tid}
 use Rattle.mdb_base.specs.Words.{holds_of, those}
 use Rattle.order_laws.specs.Chains.{In}
-use Rattle.order_laws.proofs.Lists.{in_those}
+use Rattle.order_laws.proofs.ForCallers.{in_those}
 use Rattle.presumptions.specs.declared.Decision.TheVariants as Decided
 use Rattle.fed_rules.specs.declared.commands.Command.{Command}
 use Rattle.fed_rules.specs.declared.records.CoordRecord.{CoordRecord}
@@ -19,10 +19,10 @@ use Rattle.fed_rules.specs.Resumed.{begun}
 use Rattle.fed_rules.specs.Scenarios.{policy, protocols}
 use Rattle.fed_rules.specs.Sessions.{Session, fresh}
 use Rattle.fed_rules.specs.Story.{coord_past, story_in}
-use Rattle.rules_laws.proofs.RisingLists.{rising_in}
-use Rattle.coord_laws.proofs.Past.{known_begun}
+use Rattle.rules_laws.proofs.ForCallers.{rising_in}
+use Rattle.coord_laws.proofs.ForCallers.{known_begun}
 use Rattle.coord_tables.specs.Terms.{IsSound, Terms}
-use Rattle.session_report.proofs.OutcomesTold.{decision_is}
+use Rattle.session_report.proofs.ForCallers.{decision_is}
 use Rattle.fed_world.specs.declared.world.World.{World}
 use Rattle.fed_world.specs.Asks.{terms_of}
 use Rattle.fed_world.specs.Beginnings.{GoesOn, IsFresh, Remembers}

@@ -19,7 +19,7 @@ use Rattle.local_dbms.specs.Stands.{OwnPrograms, Tells, sends_of}
 use Rattle.session_report.specs.declared.marks.Mark.{Mark}
 use Rattle.session_report.specs.declared.marks.Marks.{Marks}
 use Rattle.session_report.specs.Marks.{kept_marks, new_marks}
-use Rattle.session_report.proofs.LineMarks.{line_marks_one}
+use Rattle.session_report.proofs.ForCallers.{line_marks_one}
 use Rattle.fed_world.proofs.MarkedSeats.{going_marked}
 use Rattle.session_routes.specs.declared.traffic.Traffic.{Traffic}
 use Rattle.fed_world.specs.declared.heard.Heard.{Heard}

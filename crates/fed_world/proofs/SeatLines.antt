@@ -7,7 +7,7 @@ use Rattle.mdb_base.specs.declared.names.SiteId.{SiteId}
 use Rattle.mdb_base.specs.Names.{same_site}
 use Rattle.mdb_base.specs.Rising.{IsRising}
 use Rattle.mdb_base.specs.Words.{first_where, map_some, those}
-use Rattle.mdb_base.proofs.NameLaws.{same_site-refl}
+use Rattle.mdb_base.proofs.ForCallers.{same_site-refl}
 use Rattle.fed_rules.specs.declared.events.SiteEvent.{SiteEvent}
 use Rattle.fed_rules.specs.declared.messages.FromSite.{FromSite}
 use Rattle.fed_rules.specs.declared.messages.Sent.{Sent}
@@ -26,7 +26,7 @@ use Rattle.session_report.specs.declared.marks.Marks.{Marks}
 use Rattle.session_report.specs.Marks.{kept_marks}
 use Rattle.session_routes.specs.declared.traffic.Traffic.{Traffic}
 use Rattle.session_routes.specs.Posting.{message_to}
-use Rattle.session_routes.proofs.Posts.{get_other, get_put, length_set}
+use Rattle.session_routes.proofs.ForCallers.{get_other, get_put, length_set}
 use Rattle.fed_world.specs.SeatParts.{PartAt}
 use Rattle.fed_world.specs.Seats.{OfDbms, SiteAt, SitesAt}
 use Rattle.fed_world.specs.Beginnings.{programs_at, first_marks}

@@ -5,8 +5,7 @@ use Rattle.std.proofs.lemmas.Option.{same_Some, slice_get-get_or, slice_get_with
 use Rattle.mdb_base.specs.declared.names.SiteId.{SiteId}
 use Rattle.mdb_base.specs.Rising.{IsRising}
 use Rattle.mdb_base.specs.Words.{Each}
-use Rattle.mdb_base.proofs.PlaceLaws.{slice_get-there, made_of, same_lists}
-use Rattle.mdb_base.proofs.EachLaws.{each_by_place}
+use Rattle.mdb_base.proofs.ForCallers.{each_by_place, made_of, same_lists, slice_get-there}
 use Rattle.presumptions.specs.declared.Participant.{Participant}
 use Rattle.record_fields.specs.Named.{IsSite}
 use Rattle.fed_rules.specs.declared.answers.Answer.TheVariants as Say

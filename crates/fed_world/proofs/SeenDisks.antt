@@ -2,8 +2,8 @@
 use Rattle.std.proofs.Common.{◌≡◌, ℕ, ◌==◌, Bool, true, false, Some, List, map, slice_get, slice_set, refl, sym, ◌∙◌, ap, eqb-true, eq-eqb}
 use Rattle.std.proofs.lemmas.Option.{slice_get-map, slice_get_within}
 use Rattle.std.specs.Prelude.{option_map}
-use Rattle.mdb_base.proofs.PlaceLaws.{slice_get-one}
-use Rattle.session_routes.proofs.Posts.{get_other, get_put}
+use Rattle.mdb_base.proofs.ForCallers.{slice_get-one}
+use Rattle.session_routes.proofs.ForCallers.{get_other, get_put}
 
 -- a place is the one or another
 pub by_place : (P : Type 0) (place number : ℕ) → (place ≡ number → P) → ((place ≡ number → ⊥) → P) → P

@@ -5,12 +5,12 @@ use Rattle.mdb_base.specs.declared.names.SiteId.{SiteId}
 use Rattle.mdb_base.specs.Names.{same_site}
 use Rattle.mdb_base.specs.Rising.{IsRising}
 use Rattle.mdb_base.specs.Words.{Each, found, map_some, with_some}
-use Rattle.mdb_base.proofs.NameLaws.{same_site-equal, same_site-refl}
+use Rattle.mdb_base.proofs.ForCallers.{same_site-equal, same_site-refl}
 use Rattle.order_laws.specs.Chains.{In}
 use Rattle.fed_rules.specs.declared.commands.Place.{Place}
 use Rattle.fed_rules.specs.declared.messages.Sent.{Sent}
 use Rattle.fed_rules.specs.declared.messages.ToSite.{ToSite}
-use Rattle.rules_laws.proofs.Sends.{OverSends, none_to}
+use Rattle.rules_laws.proofs.ForCallers.{OverSends, none_to}
 use Rattle.session_routes.specs.declared.traffic.Traffic.{Traffic}
 use Rattle.session_routes.specs.Posting.{message_to, place_to, places_to}
 use Rattle.fed_world.proofs.SeatLines.{rises_on}

@@ -5,9 +5,9 @@ use Rattle.std.proofs.lemmas.List.{append-nil}
 use Rattle.mdb_base.specs.declared.names.SiteId.{SiteId}
 use Rattle.mdb_base.specs.Names.{same_site}
 use Rattle.mdb_base.specs.Words.{Each, map_some, those}
-use Rattle.mdb_base.proofs.NameLaws.{same_site-equal}
+use Rattle.mdb_base.proofs.ForCallers.{same_site-equal}
 use Rattle.order_laws.specs.Chains.{In}
-use Rattle.order_laws.proofs.Lists.{each_at, each_from}
+use Rattle.order_laws.proofs.ForCallers.{each_at, each_from}
 use Rattle.field_bytes.specs.Fields.{IsTid}
 use Rattle.presumptions.specs.declared.Participant.{Participant}
 use Rattle.fed_rules.specs.declared.commands.Command.{Command}
@@ -28,14 +28,11 @@ use Rattle.fed_rules.specs.Sessions.{Session, fresh}
 use Rattle.fed_rules.specs.SiteRecords.{Home}
 use Rattle.fed_rules.specs.Site_of.{about}
 use Rattle.fed_rules.specs.Story.{AtCoordinator, AtSite, Happened, Nowhere, Story, coord_past, first_story, found_coordinator, found_sites, happens, past_of, sends_from, sends_to, sent_from, sent_to, story_in, untold, with_site}
-use Rattle.coord_laws.proofs.Past.{records_name}
-use Rattle.commit_laws.proofs.FoundSessions.{CoordinatorFits, fresh_fits, session_goes_on}
-use Rattle.commit_laws.proofs.Links.{CoordCame, IsNext, linked}
+use Rattle.coord_laws.proofs.ForCallers.{records_name}
+use Rattle.commit_laws.proofs.ForCallers.{CoordCame, CoordinatorFits, IsNext, fresh_fits, linked, session_goes_on}
 use Rattle.local_dbms.specs.Stands.{program_at}
-use Rattle.found_laws.proofs.FoundSessions.{fits}
-use Rattle.found_laws.proofs.Opening.{session_begins}
-use Rattle.world_laws.proofs.Members.{ComesFrom, NamesAmong, SendsAmong, line_among, member_among, sites_in}
-use Rattle.world_laws.proofs.Sent.{homed, homeless, messages_of_begun}
+use Rattle.found_laws.proofs.ForCallers.{fits, session_begins}
+use Rattle.world_laws.proofs.ForCallers.{ComesFrom, NamesAmong, SendsAmong, homed, homeless, line_among, member_among, messages_of_begun, sites_in}
 use Rattle.fed_world.specs.Beginnings.{Begins, made_up, programs_at}
 use Rattle.fed_world.proofs.FoundMessages.{may_be_told}
 

@@ -4,17 +4,16 @@ use Rattle.std.proofs.lemmas.List.{length_push, take_all}
 use Rattle.std.proofs.lemmas.Option.{slice_get_within}
 use Rattle.mdb_base.specs.declared.names.SiteId.{SiteId}
 use Rattle.mdb_base.specs.Words.{Each}
-use Rattle.mdb_base.proofs.PlaceLaws.{slice_get-there, slice_get-one}
+use Rattle.mdb_base.proofs.ForCallers.{slice_get-one, slice_get-there}
 use Rattle.order_laws.specs.Chains.{In}
-use Rattle.order_laws.proofs.Lists.{each_from}
-use Rattle.order_laws.proofs.InLaws.{slice_get-in}
+use Rattle.order_laws.proofs.ForCallers.{each_from, slice_get-in}
 use Rattle.fed_rules.specs.declared.scenario.Scenario.{Scenario}
 use Rattle.fed_rules.specs.Disk.{empty_disk}
 use Rattle.fed_rules.specs.Plans.{IsScenario}
 use Rattle.fed_rules.specs.Scenarios.{home_of, sites}
 use Rattle.fed_rules.specs.SitePast.{SitePast, set_up_calls}
 use Rattle.fed_rules.specs.SiteRecords.{Home}
-use Rattle.rules_laws.proofs.Declared.{its-site}
+use Rattle.rules_laws.proofs.ForCallers.{its-site}
 use Rattle.journal_disk.specs.Disk.{Seen}
 use Rattle.any_engine.specs.declared.engine.AnyEngine.{AnyEngine}
 use Rattle.any_engine.specs.Stands as Engines
@@ -22,8 +21,7 @@ use Rattle.local_dbms.specs.declared.dbms.LocalDbms.{LocalDbms}
 use Rattle.local_dbms.specs.Stands as Dbms
 use Rattle.local_dbms.specs.Stands.{OwnPrograms, own_programs}
 use Rattle.site_core.specs.Store.{SomeStop}
-use Rattle.session_routes.proofs.Places.{snoc_before, snoc_get}
-use Rattle.session_routes.proofs.Posts.{get_other, get_put}
+use Rattle.session_routes.proofs.ForCallers.{get_other, get_put, snoc_before, snoc_get}
 use Rattle.fed_world.proofs.SeatLines.{one_place}
 use Rattle.fed_world.specs.SettingUp.{AreEmpty, AreSetUp, EmptyBut, IsSetUp, StopsForDisk, StopsForMemory}
 use Rattle.fed_world.specs.Worlds.{DbmsStands}

@@ -4,7 +4,7 @@ use Rattle.std.proofs.lemmas.List.{length-map}
 use Rattle.std.proofs.lemmas.Option.{slice_get_read, slice_get_within}
 use Rattle.mdb_base.specs.declared.names.SiteId.{SiteId}
 use Rattle.mdb_base.specs.Rising.{IsRising}
-use Rattle.mdb_base.proofs.OptionLaws.{some_parts}
+use Rattle.mdb_base.proofs.ForCallers.{some_parts}
 use Rattle.record_fields.specs.Named.{IsSite}
 use Rattle.fed_rules.specs.declared.commands.Command.{Command}
 use Rattle.fed_rules.specs.declared.answers.Answer.{Answer}
@@ -28,7 +28,7 @@ use Rattle.any_engine.specs.declared.engine.AnyEngine.{AnyEngine}
 use Rattle.any_engine.specs.Stands as Engines
 use Rattle.conservative_take.specs.AnyPolicies.{policy_is}
 use Rattle.conservative_take.specs.declared.any_policy.AnyPolicy.{AnyPolicy}
-use Rattle.rules_laws.proofs.SendsRise.{sites_rise}
+use Rattle.rules_laws.proofs.ForCallers.{sites_rise}
 use Rattle.global_manager.specs.declared.manager.GlobalManager.{GlobalManager}
 use Rattle.global_manager.specs.Stands as Manager
 use Rattle.local_dbms.specs.declared.asks.SiteAsk.{SiteAsk}
@@ -41,7 +41,7 @@ use Rattle.session_routes.specs.declared.traffic.Traffic.{Traffic}
 use Rattle.fed_world.specs.declared.heard.Heard.{Heard}
 use Rattle.fed_world.specs.SeatParts.{PartAt, PartFails, PartHears}
 use Rattle.fed_world.proofs.SeatLines.{Frame, sites_hear}
-use Rattle.session_routes.proofs.Posts.{get_put}
+use Rattle.session_routes.proofs.ForCallers.{get_put}
 use Rattle.fed_world.specs.declared.errors.WorldErr.{WorldErr}
 use Rattle.fed_world.specs.declared.world.World.{World}
 use Rattle.fed_world.specs.Asks.{AsksSite, terms_of}

@@ -2,10 +2,10 @@
 use Rattle.std.proofs.Common.{◌≡◌, ℕ, suc, ◌+◌, ◌<◌, Bool, true, false, cond, ◌||◌, Option, Some, None, List, [], ◌∷◌, ◌++◌, length, map, inl, inr, refl, sym, ap, subst, ◌∙◌, arith}
 use Rattle.mdb_base.specs.declared.names.Tid.{Tid}
 use Rattle.mdb_base.specs.Words.{Each, some_of}
-use Rattle.mdb_base.proofs.ListLaws.{append_each, each_map}
+use Rattle.mdb_base.proofs.ForCallers.{append_each, each_map}
 use Rattle.presumptions.specs.declared.Protocol.{Protocol}
 use Rattle.order_laws.specs.Chains.{In}
-use Rattle.order_laws.proofs.Lists.{each_at}
+use Rattle.order_laws.proofs.ForCallers.{each_at, first_or_second}
 use Rattle.fed_rules.specs.declared.events.SiteEvent.{SiteEvent}
 use Rattle.fed_rules.specs.declared.events.SiteEvent.TheVariants as To_site
 use Rattle.fed_rules.specs.declared.messages.FromSite.{FromSite}
@@ -19,7 +19,7 @@ use Rattle.fed_rules.specs.Runs.{Access, Run, has_ticket}
 use Rattle.fed_rules.specs.SitePast.{SiteHappening, SitePast, records, epoch, live}
 use Rattle.fed_rules.specs.SiteRecords.{Home}
 use Rattle.commit_laws.specs.Records.{IsLooseEnded}
-use Rattle.commit_laws.proofs.SiteLines.{Kept, Line}
+use Rattle.commit_laws.proofs.ForCallers.{Kept, Line}
 use Rattle.site_history.specs.Accesses.{seals, acts_of, acts_at}
 use Rattle.federation_laws.specs.Accesses.{act_of}
 use Rattle.site_history.specs.Records.{IsPrepared}
@@ -31,7 +31,6 @@ use Rattle.federation_laws.proofs.Dues.{epoch_of}
 use Rattle.federation_laws.proofs.SiteMoves.{run_ops, ops_of, done-ops, IsNth, IsFrom, finishes, Says, IsSealing, Moves}
 use Rattle.federation_laws.proofs.SiteRuns.{site_ops, RunsHold, Growth, Stays, Grows, growth, runs-next, live-plain}
 use Rattle.std.proofs.lemmas.List.{length-append}
-use Rattle.order_laws.proofs.Alike.{first_or_second}
 
 -- the operation was asked for, so many operations of the site being done
 abbrev pub WasAsked : Tid → List ToSite → Option Access → ℕ → Type 0

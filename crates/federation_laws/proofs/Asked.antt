@@ -9,9 +9,7 @@ use Rattle.mdb_base.specs.declared.replies.Reply.TheVariants as Reply_is
 use Rattle.mdb_base.specs.Names.{same_site}
 use Rattle.mdb_base.specs.Programs.{plain_act}
 use Rattle.mdb_base.specs.Words.{Each, those, how_many, item_at}
-use Rattle.mdb_base.proofs.ListLaws.{append_each}
-use Rattle.mdb_base.proofs.NameLaws.{same_site-equal, same_site-refl}
-use Rattle.mdb_base.proofs.OptionLaws.{some_parts}
+use Rattle.mdb_base.proofs.ForCallers.{append_each, same_site-equal, same_site-refl, some_parts}
 use Rattle.fed_rules.specs.declared.messages.Due.{Due}
 use Rattle.fed_rules.specs.declared.messages.Due.TheVariants as Due_is
 use Rattle.fed_rules.specs.declared.messages.Sent.{Sent}
@@ -20,7 +18,7 @@ use Rattle.fed_rules.specs.declared.messages.ToSite.TheVariants as To
 use Rattle.fed_rules.specs.CoordPast.{CoordHappening, CoordPast, Counted, begins, program, visits, counted, vote_at, outstanding, is_wait, is_ticket, last_epoch}
 use Rattle.federation_laws.proofs.CoordEffects.{program-stays, CountsReply, Effect, Starts, Replies, Votes, Still}
 use Rattle.federation_laws.proofs.CoordHolds.{is_begun, begun-stays, Holds, dead-more, IsDone, done-more, left-more, IsFresh}
-use Rattle.coord_laws.proofs.Made.{IsAsked}
+use Rattle.coord_laws.proofs.ForCallers.{IsAsked}
 use Rattle.federation_laws.proofs.CoordOps.{Matches, matches-ends, count-wait, count-elsewhere}
 use Rattle.federation_laws.specs.Accesses.{act_of}
 use Rattle.fed_rules.specs.Coord.{fits}

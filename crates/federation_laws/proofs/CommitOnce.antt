@@ -6,13 +6,11 @@ use Rattle.mdb_base.specs.declared.names.SiteTicket.{SiteTicket}
 use Rattle.mdb_base.specs.declared.names.Tid.{Tid}
 use Rattle.mdb_base.specs.Names.{same_site, same_tid}
 use Rattle.mdb_base.specs.Words.{Each, Among, found, with_some}
-use Rattle.mdb_base.proofs.NameLaws.{same_site-equal, same_tid-equal}
-use Rattle.mdb_base.proofs.OptionLaws.{some_parts, some_number}
+use Rattle.mdb_base.proofs.ForCallers.{same_site-equal, same_tid-equal, some_number, some_parts}
 use Rattle.presumptions.specs.declared.Participant.{Participant}
 use Rattle.order_laws.specs.Chains.{In}
 use Rattle.order_laws.specs.Tickets.{Ticketed, OneEach}
-use Rattle.order_laws.proofs.Lists.{among_is, in_those, one_image, each_of_at, those_in}
-use Rattle.order_laws.proofs.Tickets.{acyclic_no_cycle}
+use Rattle.order_laws.proofs.ForCallers.{acyclic_no_cycle, among_is, each_of_at, found_there, in_more, in_those, one_image, those_in}
 use Rattle.fed_rules.specs.declared.answers.Answer.TheVariants as Say
 use Rattle.fed_rules.specs.declared.commands.Command.{Command}
 use Rattle.fed_rules.specs.declared.events.CoordEvent.{CoordEvent}
@@ -32,16 +30,11 @@ use Rattle.fed_rules.specs.Story.{Story, Happened, AtSite, AtCoordinator, Nowher
 use Rattle.federation_laws.specs.Edges.{committed, TicketGraphsAreCycleFree}
 use Rattle.federation_laws.proofs.CoordEffects.{program-stays}
 use Rattle.federation_laws.proofs.CoordHolds.{starts-novote, fresh-begun}
-use Rattle.coord_laws.proofs.Made.{IsLastVote, Writes}
-use Rattle.coord_laws.proofs.OneEach.{tids_of, committed_tid}
-use Rattle.coord_laws.proofs.Past.{commits_once}
-use Rattle.commit_laws.proofs.Links.{story_goes_on}
+use Rattle.coord_laws.proofs.ForCallers.{IsLastVote, Writes, commits_once, commits_whole, committed_tid, tids_of}
+use Rattle.commit_laws.proofs.ForCallers.{story_goes_on}
 use Rattle.federation_laws.proofs.StoryGlobals.{StoryHolds, story-holds, coord-made, fresh-line, declared-program}
 use Rattle.federation_laws.proofs.Told.{IsCoordLine, IsLine, CoordCause, line_is}
 use Rattle.federation_laws.proofs.TicketCycles.{free-story}
-use Rattle.coord_laws.proofs.Cycles.{commits_whole}
-use Rattle.order_laws.proofs.Joined.{in_more}
-use Rattle.order_laws.proofs.InLaws.{found_there}
 
 -- no attempt has two Commit records
 pub commits-once : (scenario : Scenario) (commands : List Command) → OneEach (committed (story_of scenario commands))

@@ -9,15 +9,12 @@ use Rattle.mdb_base.specs.declared.replies.Edge.{Edge}
 use Rattle.mdb_base.specs.declared.rows.Put.{Put}
 use Rattle.mdb_base.specs.Names.{same_site}
 use Rattle.mdb_base.specs.Words.{Among, Each, some_of, those}
-use Rattle.mdb_base.proofs.NameLaws.{same_tid-refl}
+use Rattle.mdb_base.proofs.ForCallers.{same_tid-refl}
 use Rattle.presumptions.specs.declared.Participant.{Participant}
 use Rattle.order_laws.specs.Chains.{In}
 use Rattle.order_laws.specs.Search.{Walk}
 use Rattle.order_laws.specs.Tickets.{Precedes, Ticketed, edge_between}
-use Rattle.order_laws.proofs.Lists.{among_is, each_at, in_those, is_among, map_among}
-use Rattle.order_laws.proofs.Search.{found}
-use Rattle.order_laws.proofs.Tickets.{edge_some}
-use Rattle.order_laws.proofs.InLaws.{in_append}
+use Rattle.order_laws.proofs.ForCallers.{among_is, each_at, edge_some, found, in_append, in_those, is_among, map_among}
 use Rattle.fed_rules.specs.declared.answers.Answer.{Answer}
 use Rattle.fed_rules.specs.declared.answers.Answer.TheVariants as Say
 use Rattle.fed_rules.specs.declared.answers.Cause.TheVariants as For
@@ -48,14 +45,13 @@ use Rattle.site_history.specs.Records.{BindOnce, Binds, IsBound, IsPrepared, Pre
 use Rattle.site_history.specs.SiteOrders.{IsSerialPast}
 use Rattle.site_history.specs.Stories.{OfSites, StoriesHaveRightLines}
 use Rattle.site_history.specs.Tickets.{HasTicket, TicketsRise}
-use Rattle.site_history.proofs.Records.{once_behind}
+use Rattle.site_history.proofs.ForCallers.{once_behind}
 use Rattle.federation_laws.specs.Conservative.{ConservativeTicketsCloseNoCycle, RefusesForCycle}
 use Rattle.federation_laws.proofs.Agreement.{IsSaid, WereAsked}
 use Rattle.federation_laws.proofs.CommitOnce.{IsVote, node-tid, tickets-voted, votes-sent}
-use Rattle.coord_laws.proofs.OneEach.{committed_tid}
+use Rattle.coord_laws.proofs.ForCallers.{AppendsCommit, commit_from, committed_tid, last_vote_of}
 use Rattle.federation_laws.proofs.CoordEffects.{program-stays}
 use Rattle.federation_laws.proofs.CoordHolds.{fresh-begun, is_begun}
-use Rattle.coord_laws.proofs.Standings.{last_vote_of, AppendsCommit, commit_from}
 use Rattle.federation_laws.proofs.Declared.{undeclared}
 use Rattle.federation_laws.proofs.Globals.{global-agreed}
 use Rattle.federation_laws.proofs.OnceGlobal.{global-once}

@@ -8,9 +8,9 @@ use Rattle.mdb_base.specs.declared.replies.Reply.TheVariants as Reply_is
 use Rattle.mdb_base.specs.Names.{same_site}
 use Rattle.mdb_base.specs.Programs.{plain_act}
 use Rattle.mdb_base.specs.Words.{Each}
-use Rattle.mdb_base.proofs.Words.{cond-true}
+use Rattle.mdb_base.proofs.ForCallers.{cond-true, nothing_left, same_site-equal, some_parts}
 use Rattle.order_laws.specs.Chains.{In}
-use Rattle.order_laws.proofs.Lists.{each_at}
+use Rattle.order_laws.proofs.ForCallers.{each_at, in_more}
 use Rattle.fed_rules.specs.declared.events.CoordEvent.TheVariants as Ev
 use Rattle.fed_rules.specs.declared.messages.FromSite.{FromSite}
 use Rattle.fed_rules.specs.declared.messages.FromSite.TheVariants as From
@@ -25,17 +25,13 @@ use Rattle.federation_laws.proofs.Agreement.{WasAsked, WereAsked, IsSaid, IsBehi
 use Rattle.federation_laws.proofs.Asked.{IsAskedWork, IsAskedVote, IsOld, IsOf, Asked, asked-next, sent_here}
 use Rattle.federation_laws.proofs.CoordEffects.{CountsReply, Effect, Starts, Replies, Votes, Still}
 use Rattle.federation_laws.proofs.CoordHolds.{is_begun, IsDone, Holds, IsFresh, dead-more}
-use Rattle.coord_laws.proofs.Made.{IsAsked}
+use Rattle.coord_laws.proofs.ForCallers.{IsAsked}
 use Rattle.federation_laws.proofs.CoordOps.{Op, op_at, ops, ops_at, granted, Matches, agree-count}
 use Rattle.federation_laws.proofs.CountedReplies.{is_dead, Works, Progress, Waiting, Working, Taking, progress, counts-epoch}
 use Rattle.federation_laws.proofs.Dues.{of_site, epoch_of, left_at, ticket_of, count_of, reads_of}
 use Rattle.federation_laws.proofs.SiteMoves.{IsNth, finishes}
 use Rattle.federation_laws.proofs.SiteRuns.{site_ops, RunsHold}
 use Rattle.std.proofs.lemmas.List.{append-nil, length-append}
-use Rattle.mdb_base.proofs.NameLaws.{same_site-equal}
-use Rattle.mdb_base.proofs.OptionLaws.{some_parts}
-use Rattle.mdb_base.proofs.JoinLaws.{nothing_left}
-use Rattle.order_laws.proofs.Joined.{in_more}
 
 was-more : (g : Tid) (sent more : List ToSite) (op : Option Access) (n : ℕ) → WasAsked g sent op n → WasAsked g (sent ++ more) op n
 was-more g sent more (Some access) n h = (h.0, in_more _ sent more h.1)

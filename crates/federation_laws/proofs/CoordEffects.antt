@@ -5,13 +5,13 @@ use Rattle.mdb_base.specs.declared.names.Tid.{Tid}
 use Rattle.mdb_base.specs.declared.replies.Reply.{Reply}
 use Rattle.mdb_base.specs.Names.{same_site, same_tid}
 use Rattle.mdb_base.specs.Words.{with_some, map_some}
-use Rattle.mdb_base.proofs.NameLaws.{same_tid-equal}
+use Rattle.mdb_base.proofs.ForCallers.{same_tid-equal}
 use Rattle.fed_rules.specs.declared.events.CoordEvent.{CoordEvent}
 use Rattle.fed_rules.specs.declared.events.CoordEvent.TheVariants as Ev
 use Rattle.fed_rules.specs.declared.messages.FromSite.TheVariants as From
 use Rattle.fed_rules.specs.Coord.{did_counts, vote_counts}
 use Rattle.fed_rules.specs.CoordPast.{CoordHappening, CoordPast, Counted, begins, program_in, or_steps, program, counts, did_in, counted, vote_in, or_vote, vote_at, outstanding}
-use Rattle.coord_laws.proofs.Made.{Counts}
+use Rattle.coord_laws.proofs.ForCallers.{Counts}
 use Rattle.federation_laws.proofs.CoordOps.{Op, finished, op_at, op_in, ops}
 
 -- the program stays

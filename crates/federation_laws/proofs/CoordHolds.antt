@@ -9,9 +9,8 @@ use Rattle.mdb_base.specs.Names.{same_site, same_tid}
 use Rattle.mdb_base.specs.Programs.{plain_act}
 use Rattle.mdb_base.specs.Words.{Each, Among, some_of, item_at, with_some}
 use Rattle.presumptions.specs.declared.Participant.{Participant}
-use Rattle.order_laws.proofs.Lists.{each_of_at, among_is, in_those}
-use Rattle.mdb_base.proofs.NameLaws.{same_tid-sym, same_site-equal, same_tid-refl}
-use Rattle.mdb_base.proofs.Words.{cond-true}
+use Rattle.order_laws.proofs.ForCallers.{among_is, each_of_at, in_those}
+use Rattle.mdb_base.proofs.ForCallers.{cond-true, same_site-equal, same_tid-refl, same_tid-sym}
 use Rattle.fed_rules.specs.declared.answers.Answer.{Answer}
 use Rattle.fed_rules.specs.declared.events.CoordEvent.{CoordEvent}
 use Rattle.fed_rules.specs.declared.events.CoordEvent.TheVariants as Ev
@@ -27,11 +26,10 @@ use Rattle.fed_rules.specs.Disk.{Call, Append, Sync, CutBack, TrimFront, Stops}
 use Rattle.fed_rules.specs.Happenings.{quiet, stops, comes_up}
 use Rattle.federation_laws.specs.Accesses.{act_of, Follows}
 use Rattle.federation_laws.proofs.CoordEffects.{program-stays, CountsReply, Effect, Starts, Replies, Votes, Still, effect}
-use Rattle.coord_laws.proofs.Made.{CommitsNobody, IsLastVote, is_refusal, Decides, Begins, IsMade}
+use Rattle.coord_laws.proofs.ForCallers.{AppendsCommit, Begins, CommitsNobody, DecidesOnRefusal, IsLastVote, IsMade, commit_from, is_refusal, last_vote_of, undecided_from}
 use Rattle.federation_laws.proofs.CoordOps.{Op, op_at, ops, accesses, Agree, agree-wait, agree-steps, agree-reads}
 use Rattle.federation_laws.proofs.CountedReplies.{is_dead, Works, Progress, Waiting, Working, Taking, progress, counts-fits}
 use Rattle.federation_laws.proofs.Dues.{left_at, ticket_of, steps_of, of_site, voting, IsWork, IsTake, due-is, Fitting, ToWork, ToTake, fitting}
-use Rattle.coord_laws.proofs.Standings.{last_vote_of, undecided_from, AppendsCommit, commit_from}
 
 -- whether the attempt was begun
 abbrev pub is_begun : CoordPast → Tid → Bool
@@ -263,7 +261,7 @@ going-next past g x h (Still q) d =
     going-by (x ∷ past) g _ _ _ q.replies q.done (program-stays past g x q.begun) (h.agree was) (h.follows was)
 
 -- who is undecided has had no refusal
-alive-next : (past : CoordPast) (g : Tid) (x : CoordHappening) → Begins x.event x.answer → Decides x.event x.answer → Holds past g → Effect past g x → is_open (x ∷ past) g ≡ true → is_dead (counted (x ∷ past) g) ≡ false
+alive-next : (past : CoordPast) (g : Tid) (x : CoordHappening) → Begins x.event x.answer → DecidesOnRefusal x.event x.answer → Holds past g → Effect past g x → is_open (x ∷ past) g ≡ true → is_dead (counted (x ∷ past) g) ≡ false
 alive-next past g x b d h effects u = by_case effects (undecided_from past g x b u)
   where
     by_case : Effect past g x → (begins g x.answer ≡ true) ⊎ ((is_open past g ≡ true) × (is_about g x.event ≡ true → decides x.answer ≡ false) × ((stops x.answer || comes_up x.answer) ≡ false)) → is_dead (counted (x ∷ past) g) ≡ false
@@ -271,12 +269,12 @@ alive-next past g x b d h effects u = by_case effects (undecided_from past g x b
     by_case (Starts e) (inr k) = ap is_dead (cond-true (begins g x.answer) [] _ e)
     by_case (Replies r) (inr k) = ap is_dead r.replies ∙ goes (is_refusal r.reply) refl
       where
-        refuses : Decides x.event x.answer
+        refuses : DecidesOnRefusal x.event x.answer
         refuses = d
 
         goes : (t : Bool) → is_refusal r.reply ≡ t → (is_refusal r.reply || is_dead (counted past g)) ≡ false
         goes true e =
-            let decided : decides x.answer ≡ true = (subst (λ ev. Decides ev x.answer) r.heard d) r.taken e in
+            let decided : decides x.answer ≡ true = (subst (λ ev. DecidesOnRefusal ev x.answer) r.heard d) r.taken e in
             let not_decided : decides x.answer ≡ false = k.1 (ap (is_about g) r.heard ∙ same_tid-refl g) in cc
         goes false e = ap (λ t. t || is_dead (counted past g)) e ∙ h.alive k.0
     by_case (Votes v) (inr k) = ap is_dead v.replies ∙ h.alive k.0
@@ -350,7 +348,7 @@ holds-next protocols past g event x made fresh declared h =
     let effects = effect past g x event made.heard made.counted in
     record {
       unbegun = λ e. let parts = unbegun-before past g x e in program-stays past g x parts.0 ∙ h.unbegun parts.1;
-      alive = alive-next past g x (subst (λ ev. Begins ev x.answer) (sym made.heard) made.begun) (subst (λ ev. Decides ev x.answer) (sym made.heard) made.decided) h effects;
+      alive = alive-next past g x (subst (λ ev. Begins ev x.answer) (sym made.heard) made.begun) (subst (λ ev. DecidesOnRefusal ev x.answer) (sym made.heard) made.decided) h effects;
       agree = λ d. (going-next past g x h effects d).agree;
       follows = λ d. (going-next past g x h effects d).follows;
       voted = λ s. voted-next past g x s h effects;

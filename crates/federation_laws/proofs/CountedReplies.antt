@@ -16,7 +16,7 @@ use Rattle.fed_rules.specs.CoordPast.{CoordHappening, CoordPast, Counted, progra
 use Rattle.fed_rules.specs.Runs.{Access, Got, Wrote}
 use Rattle.federation_laws.specs.Accesses.{act_of}
 use Rattle.federation_laws.proofs.CoordEffects.{CountsReply}
-use Rattle.coord_laws.proofs.Made.{is_refusal}
+use Rattle.coord_laws.proofs.ForCallers.{is_refusal}
 use Rattle.federation_laws.proofs.CoordOps.{finished, op_at, ops, Matches}
 use Rattle.federation_laws.proofs.Dues.{IsWork, IsTake, due-is, Fitting, ToWork, ToTake, fitting}
 

@@ -5,12 +5,10 @@ use Rattle.mdb_base.specs.declared.names.SiteId.{SiteId}
 use Rattle.mdb_base.specs.declared.names.Tid.{Tid}
 use Rattle.mdb_base.specs.Names.{same_site, same_tid}
 use Rattle.mdb_base.specs.Words.{item_at}
-use Rattle.mdb_base.proofs.NameLaws.{same_site-equal, same_site-refl}
-use Rattle.mdb_base.proofs.PlaceLaws.{item_at-below}
+use Rattle.mdb_base.proofs.ForCallers.{item_at-below, same_site-equal, same_site-refl}
 use Rattle.order_laws.specs.Chains.{In}
 use Rattle.order_laws.specs.Orders.{is_in}
-use Rattle.order_laws.proofs.Lists.{each_at, in_is_true}
-use Rattle.order_laws.proofs.Names.{tells_tids}
+use Rattle.order_laws.proofs.ForCallers.{each_at, in_is_true, tells_tids}
 use Rattle.fed_rules.specs.declared.commands.Command.{Command}
 use Rattle.fed_rules.specs.declared.messages.FromSite.TheVariants as From
 use Rattle.fed_rules.specs.declared.messages.ToSite.TheVariants as To
@@ -30,7 +28,7 @@ use Rattle.site_history.specs.Records.{IsPrepared}
 use Rattle.federation_laws.proofs.Agreement.{IsSaid, has_sealed}
 use Rattle.federation_laws.proofs.Asked.{IsOld, IsAskedVote}
 use Rattle.federation_laws.proofs.CommitOnce.{votes-sent}
-use Rattle.coord_laws.proofs.OneEach.{commit_node}
+use Rattle.coord_laws.proofs.ForCallers.{commit_node}
 use Rattle.federation_laws.proofs.CoordHolds.{Finished}
 use Rattle.federation_laws.proofs.CoordOps.{ops, accesses, agree-steps, agree-reads, at-granted}
 use Rattle.federation_laws.proofs.Declared.{undeclared}

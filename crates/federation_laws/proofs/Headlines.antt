@@ -8,9 +8,7 @@ use Rattle.mdb_base.specs.Rows.{look_up}
 use Rattle.mdb_base.specs.Words.{found, inserted, those, with_some}
 use Rattle.order_laws.specs.Chains.{In}
 use Rattle.order_laws.specs.Orders.{is_in}
-use Rattle.order_laws.proofs.Lists.{each_at, those_in}
-use Rattle.order_laws.proofs.Merge.{merge_names}
-use Rattle.order_laws.proofs.Names.{tells_tids}
+use Rattle.order_laws.proofs.ForCallers.{each_at, merge_names, tells_tids, those_in}
 use Rattle.fed_rules.specs.declared.commands.Command.{Command}
 use Rattle.fed_rules.specs.declared.records.SiteRecord.{SiteRecord}
 use Rattle.fed_rules.specs.declared.scenario.Scenario.{Scenario}
@@ -26,19 +24,17 @@ use Rattle.fed_rules.specs.Attempts.{each_attempt}
 use Rattle.fed_rules.specs.SiteRecords.{Home, Held, by_tid, doubt_of, doubts, held_before, prepared_tids, rows_after}
 use Rattle.fed_rules.specs.Story.{Story, coord_past, past_of, story_of}
 use Rattle.commit_laws.specs.Endings.{StoriesEndAlike, StoriesForgetExactly, StoriesAnswerInDoubt}
-use Rattle.commit_laws.proofs.Agreed.{coord-sound, begun_global}
-use Rattle.coord_laws.proofs.RecordLists.{commit_among}
-use Rattle.coord_laws.proofs.Sound.{commit_mark}
-use Rattle.commit_laws.proofs.PreparedLaws.{nowhere}
+use Rattle.commit_laws.proofs.ForCallers.{begun_global, coord-sound, nowhere}
+use Rattle.coord_laws.proofs.ForCallers.{commit_among, commit_mark}
 use Rattle.site_history.specs.SiteOrders.{IsSerialPast}
 use Rattle.site_history.specs.Stories.{OfSites}
-use Rattle.site_history.proofs.Starts.{doubt_among}
+use Rattle.site_history.proofs.ForCallers.{doubt_among}
 use Rattle.federation_laws.specs.OneOrder.{AllAreOrdered, HasOneOrder, OneAttemptEach}
 use Rattle.federation_laws.proofs.Declared.{member-declared, order-in, order-of}
 use Rattle.federation_laws.proofs.ScenarioFacts.{global_program-is, program_fits}
 use Rattle.federation_laws.proofs.SiteParts.{tells-outcomes}
 use Rattle.federation_laws.proofs.Told.{home-again}
-use Rattle.rules_laws.proofs.EachAttempt.{in_each}
+use Rattle.rules_laws.proofs.ForCallers.{in_each}
 
 -- the members of each site's order stand in each merge
 member_merged : (scenario : Scenario) (story : Story) (order : List Tid) → IsMerge scenario story order → (site : SiteId) (tid : Tid)

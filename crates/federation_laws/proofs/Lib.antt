@@ -1,44 +1,45 @@
-pub mod Agreement
-pub mod Asked
-pub mod CommitOnce
-pub mod ConservativeTickets
-pub mod CoordAgreement
-pub mod CoordEffects
-pub mod CoordHolds
-pub mod CoordOps
-pub mod CountedReplies
-pub mod Declared
-pub mod Dues
-pub mod Globals
-pub mod Headlines
-pub mod LaterRuns
-pub mod LocalLines
-pub mod LocalMoves
-pub mod LocalRuns
-pub mod LocalStories
-pub mod Members
-pub mod Memberships
-pub mod Merges
-pub mod OnceEach
-pub mod OnceGlobal
-pub mod OnceLocal
-pub mod OneOrders
-pub mod Ordered
-pub mod Phases
-pub mod PhasesApart
-pub mod Refuted
-pub mod ScenarioFacts
-pub mod SerialOrders
-pub mod SerialRuns
-pub mod SerialStories
-pub mod SiteAbout
-pub mod SiteLines
-pub mod SiteLocals
-pub mod SiteMoves
-pub mod SiteOperations
-pub mod SiteParts
-pub mod SiteRuns
-pub mod SiteSteps
-pub mod StoryGlobals
-pub mod TicketCycles
-pub mod Told
+pub mod ForCallers
+mod Agreement
+mod Asked
+mod CommitOnce
+mod ConservativeTickets
+mod CoordAgreement
+mod CoordEffects
+mod CoordHolds
+mod CoordOps
+mod CountedReplies
+mod Declared
+mod Dues
+mod Globals
+mod Headlines
+mod LaterRuns
+mod LocalLines
+mod LocalMoves
+mod LocalRuns
+mod LocalStories
+mod Members
+mod Memberships
+mod Merges
+mod OnceEach
+mod OnceGlobal
+mod OnceLocal
+mod OneOrders
+mod Ordered
+mod Phases
+mod PhasesApart
+mod Refuted
+mod ScenarioFacts
+mod SerialOrders
+mod SerialRuns
+mod SerialStories
+mod SiteAbout
+mod SiteLines
+mod SiteLocals
+mod SiteMoves
+mod SiteOperations
+mod SiteParts
+mod SiteRuns
+mod SiteSteps
+mod StoryGlobals
+mod TicketCycles
+mod Told

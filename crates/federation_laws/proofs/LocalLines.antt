@@ -3,7 +3,7 @@ use Rattle.std.proofs.Common.{◌≡◌, ℕ, Bool, true, false, Option, Some, N
 use Rattle.mdb_base.specs.declared.names.Tid.{Tid}
 use Rattle.mdb_base.specs.Names.{same_tid}
 use Rattle.mdb_base.specs.Words.{some_of, when}
-use Rattle.mdb_base.proofs.NameLaws.{same_tid-equal}
+use Rattle.mdb_base.proofs.ForCallers.{same_tid-equal}
 use Rattle.fed_rules.specs.declared.answers.Answer.TheVariants as Say
 use Rattle.fed_rules.specs.declared.events.SiteEvent.{SiteEvent}
 use Rattle.fed_rules.specs.declared.events.SiteEvent.TheVariants as Ev
@@ -16,8 +16,7 @@ use Rattle.fed_rules.specs.Orders.{read_by}
 use Rattle.fed_rules.specs.Site.{of_give, answered, site_line, of_check}
 use Rattle.fed_rules.specs.SitePast.{SiteHappening, SitePast, disk, trip}
 use Rattle.fed_rules.specs.SiteRecords.{Home, site_frame}
-use Rattle.commit_laws.proofs.SiteEnds.{by-answered}
-use Rattle.commit_laws.proofs.SiteShut.{restored-sealed}
+use Rattle.commit_laws.proofs.ForCallers.{by-answered, restored-sealed}
 use Rattle.site_history.specs.Accesses.{seals}
 use Rattle.federation_laws.proofs.Asked.{IsOf}
 use Rattle.federation_laws.proofs.LocalMoves.{LocalMove, Rests, Gone, Opening, Granting, Closing, Made, made_when, other-made, plain-made, begin-made, act-made, commit-made, abort-made, decide-made, ask-made, drop-made, fate-made, back-made}

@@ -10,7 +10,7 @@ use Rattle.mdb_base.specs.declared.replies.Why.{Why}
 use Rattle.mdb_base.specs.declared.replies.Why.TheVariants as Because
 use Rattle.mdb_base.specs.Names.{same_tid, same_tx}
 use Rattle.mdb_base.specs.Words.{some_of, when, given}
-use Rattle.mdb_base.proofs.NameLaws.{same_tid-refl}
+use Rattle.mdb_base.proofs.ForCallers.{same_tid-refl}
 use Rattle.presumptions.specs.declared.Decision.{Decision}
 use Rattle.presumptions.specs.Table.{forces}
 use Rattle.fed_rules.specs.declared.answers.Answer.{Answer}
@@ -27,14 +27,12 @@ use Rattle.fed_rules.specs.Site.{with_lines, of_begin, act_answer, of_act, reply
 use Rattle.fed_rules.specs.SitePast.{SiteHappening, SitePast, disk, epoch, epoch_start, engine_lines, run_of, live, live_one, begins_tx, records, live_of_tx}
 use Rattle.fed_rules.specs.SiteRecords.{Home, site_frame, local_of}
 use Rattle.fed_rules.specs.Story.{value_of}
-use Rattle.commit_laws.proofs.SiteShut.{restored-sealed, given-up}
+use Rattle.commit_laws.proofs.ForCallers.{given-up, restored-sealed, settling-tid}
 use Rattle.site_history.specs.Accesses.{seals}
 use Rattle.federation_laws.specs.Accesses.{act_of}
 use Rattle.federation_laws.proofs.SiteAbout.{IsAbout}
-use Rattle.site_history.proofs.LocalLines.{refusal_plain, act_plain}
+use Rattle.site_history.proofs.ForCallers.{act_plain, live_is, refusal_plain}
 use Rattle.federation_laws.proofs.SiteMoves.{Fits, access-fits, others-run, live-next, unsealed-live}
-use Rattle.site_history.proofs.Agreement.{live_is}
-use Rattle.commit_laws.proofs.SiteEnds.{settling-tid}
 use Rattle.federation_laws.proofs.SiteSteps.{no-seals, own-line, settled-none}
 
 -- the line reads nothing for the attempt, and doesn't seal it

@@ -9,7 +9,7 @@ use Rattle.mdb_base.specs.Programs.{plain_act}
 use Rattle.fed_rules.specs.Disk.{Append}
 use Rattle.fed_rules.specs.Runs.{Run}
 use Rattle.order_laws.specs.Chains.{In}
-use Rattle.order_laws.proofs.Lists.{each_at}
+use Rattle.order_laws.proofs.ForCallers.{each_at, item_at-in}
 use Rattle.fed_rules.specs.declared.commands.Command.{Command}
 use Rattle.fed_rules.specs.declared.events.SiteEvent.{SiteEvent}
 use Rattle.fed_rules.specs.declared.events.SiteEvent.TheVariants as Ev
@@ -33,9 +33,7 @@ use Rattle.federation_laws.proofs.SiteLocals.{local-by-commit}
 use Rattle.federation_laws.proofs.StoryGlobals.{StoryHolds, story-holds, coord-made, fresh-line, live_of_tx-is}
 use Rattle.federation_laws.proofs.Told.{home_is-site, local_home-declared, SiteCause, IsSiteLine, IsLine, line_is}
 use Rattle.std.proofs.lemmas.List.{append-nil}
-use Rattle.mdb_base.proofs.NameLaws.{same_site-equal, same_tx-equal}
-use Rattle.mdb_base.proofs.OptionLaws.{some_parts}
-use Rattle.order_laws.proofs.InLaws.{item_at-in}
+use Rattle.mdb_base.proofs.ForCallers.{same_site-equal, same_tx-equal, some_parts}
 
 -- what was sent to a site was asked of begun attempts
 asked-happened : (scenario : Scenario) (story : Story) (command : Command) (happened : Happened) (site : SiteId) (g : Tid) → IsLine scenario story happened → StoryHolds scenario story g → StoryHolds scenario (record { command = command; happened = happened } ∷ story) g → Asked (coord_past story) g site (sent_to site story)

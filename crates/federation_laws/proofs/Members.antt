@@ -1,13 +1,12 @@
 -- Who is a member of a site's order: it has a Local record there, or a Prepared one, and its outcome is commit.
-use Rattle.mdb_base.proofs.JoinLaws.{reverse_more}
-use Rattle.site_history.proofs.Installs.{install_before}
+use Rattle.mdb_base.proofs.ForCallers.{reverse_more, same_tid-refl}
+use Rattle.site_history.proofs.ForCallers.{install_before}
 use Rattle.std.proofs.Common.{◌≡◌, ◌⊎◌, ℕ, Bool, true, false, cond, ◌||◌, nat_le, List, [], ◌∷◌, map, reverse, inl, inr, refl, sym, ap, subst, ◌∙◌}
 use Rattle.mdb_base.specs.declared.names.Tid.{Tid}
 use Rattle.mdb_base.specs.declared.rows.Put.{Put}
 use Rattle.mdb_base.specs.Words.{Among, some_of, inserted}
-use Rattle.mdb_base.proofs.NameLaws.{same_tid-refl}
 use Rattle.order_laws.specs.Chains.{In}
-use Rattle.order_laws.proofs.InLaws.{in_inserted, append_in, in_reverse}
+use Rattle.order_laws.proofs.ForCallers.{append_in, in_inserted, in_reverse}
 use Rattle.fed_rules.specs.declared.records.SiteRecord.{SiteRecord}
 use Rattle.fed_rules.specs.declared.records.SiteRecord.TheVariants as Rec
 use Rattle.fed_rules.specs.Disk.{Disk, Call, Append, Sync, CutBack, TrimFront, Stops, bytes_of, whole, after_calls}
@@ -68,7 +67,7 @@ reverse-in x (y ∷ xs) (inr i) = subst (In x) (sym (reverse_more y xs)) (append
 
 -- a member of the order has its record
 pub member-of : (commits : Tid → Bool) (rs : List SiteRecord) (tid : Tid) → In tid (order_of commits rs) → IsMember commits rs tid
-member-of commits rs tid i = image (due_installs commits rs) (in_reverse tid (map (λ install. install.tid) (due_installs commits rs)) i) (λ install j. install-member commits rs install j)
+member-of commits rs tid i = image (due_installs commits rs) (in_reverse (map (λ install. install.tid) (due_installs commits rs)) tid i) (λ install j. install-member commits rs install j)
   where
     image : (installs : List Install) → In tid (map (λ install. install.tid) installs) → ((install : Install) → In install installs → IsMember commits rs install.tid) → IsMember commits rs tid
     image [] i h = absurd i

@@ -3,12 +3,10 @@ use Rattle.std.proofs.Common.{◌≡◌, ℕ, Bool, true, false, Some, None, Lis
 use Rattle.mdb_base.specs.declared.names.SiteId.{SiteId}
 use Rattle.mdb_base.specs.declared.names.Tid.{Tid}
 use Rattle.mdb_base.specs.Names.{same_site, same_tid}
-use Rattle.mdb_base.proofs.NameLaws.{same_site-equal}
-use Rattle.mdb_base.proofs.OptionLaws.{some_parts}
+use Rattle.mdb_base.proofs.ForCallers.{same_site-equal, some_parts}
 use Rattle.order_laws.specs.Chains.{In}
 use Rattle.order_laws.specs.Orders.{is_in}
-use Rattle.order_laws.proofs.Lists.{in_is_true}
-use Rattle.order_laws.proofs.Names.{tells_tids}
+use Rattle.order_laws.proofs.ForCallers.{in_is_true, tells_tids}
 use Rattle.fed_rules.specs.declared.commands.Command.{Command}
 use Rattle.fed_rules.specs.declared.scenario.Scenario.{Scenario}
 use Rattle.fed_rules.specs.Orders.{is_committed, records_at, records_of, order_at, reads_at}

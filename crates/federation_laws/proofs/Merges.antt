@@ -4,21 +4,13 @@ use Rattle.std.proofs.Common.{◌≡◌, Bool, true, false, cond, Option, Some, 
 use Rattle.mdb_base.specs.declared.names.SiteId.{SiteId}
 use Rattle.mdb_base.specs.declared.names.Tid.{Tid}
 use Rattle.mdb_base.specs.Names.{same_tid, tid_before}
-use Rattle.mdb_base.proofs.NameLaws.{same_tid-equal, same_tid-refl}
+use Rattle.mdb_base.proofs.ForCallers.{same_tid-equal, same_tid-refl}
 use Rattle.order_laws.specs.Chains.{In, Distinct, Acyclic, Within}
 use Rattle.order_laws.specs.Merge.{IsLeastOrder}
 use Rattle.order_laws.specs.Orders.{Before, Union}
 use Rattle.order_laws.specs.Sites.{BeforeAtSite}
 use Rattle.order_laws.specs.Tickets.{Ticketed}
-use Rattle.order_laws.proofs.Chains.{acyclic_map}
-use Rattle.order_laws.proofs.Least.{least_is_merge, least_merge_one}
-use Rattle.order_laws.proofs.LeastFound.{merged_is_least}
-use Rattle.order_laws.proofs.Lists.{among_is, each_from}
-use Rattle.order_laws.proofs.Merge.{merge_distinct}
-use Rattle.order_laws.proofs.Names.{tells_tids, ranks_tids}
-use Rattle.order_laws.proofs.Orders.{before_in}
-use Rattle.order_laws.proofs.Placed.{least_merge_placed, least_order_left}
-use Rattle.order_laws.proofs.Sites.{sites_acyclic}
+use Rattle.order_laws.proofs.ForCallers.{acyclic_map, among_is, before_in, each_from, least_is_merge, least_merge_one, least_merge_placed, least_order_left, merge_distinct, merged_is_least, ranks_tids, sites_acyclic, tells_tids}
 use Rattle.fed_rules.specs.declared.scenario.Scenario.{Scenario}
 use Rattle.fed_rules.specs.Orders.{records_at, records_of, order_at, orders, IsMerge}
 use Rattle.fed_rules.specs.Reports.{printed_order}

@@ -1,7 +1,7 @@
 -- Of each transaction at most one attempt stands in the orders of the sites.
 use Rattle.std.proofs.Common.{◌≡◌, inr, List, sym, ap, subst, ◌∙◌}
 use Rattle.mdb_base.specs.declared.names.Tid.{Tid}
-use Rattle.mdb_base.proofs.OptionLaws.{some_parts}
+use Rattle.mdb_base.proofs.ForCallers.{some_parts}
 use Rattle.fed_rules.specs.declared.commands.Command.{Command}
 use Rattle.fed_rules.specs.declared.scenario.Scenario.{Scenario}
 use Rattle.fed_rules.specs.Plans.{IsScenario}

@@ -4,8 +4,7 @@ use Rattle.mdb_base.specs.declared.names.Tid.{Tid}
 use Rattle.mdb_base.specs.Names.{same_tid, same_tx}
 use Rattle.presumptions.specs.declared.Participant.{Participant}
 use Rattle.order_laws.specs.Chains.{In}
-use Rattle.order_laws.proofs.Lists.{first_where_none, is_in_true}
-use Rattle.order_laws.proofs.Names.{tells_tids}
+use Rattle.order_laws.proofs.ForCallers.{first_where_none, is_in_true, tells_tids}
 use Rattle.fed_rules.specs.declared.answers.Answer.TheVariants as Say
 use Rattle.fed_rules.specs.declared.events.CoordEvent.{CoordEvent}
 use Rattle.fed_rules.specs.declared.commands.Command.{Command}
@@ -15,15 +14,13 @@ use Rattle.fed_rules.specs.CoordPast.{CoordHappening, CoordPast, records, is_ope
 use Rattle.fed_rules.specs.Scenarios.{protocols}
 use Rattle.fed_rules.specs.Story.{Story, Happened, AtSite, AtCoordinator, Nowhere, coord_past, with_coordinator, story_of}
 use Rattle.federation_laws.proofs.CoordHolds.{is_begun, begun-next, begun-stays, begins-answer}
-use Rattle.coord_laws.proofs.Standings.{undecided_from}
-use Rattle.coord_laws.proofs.Made.{IsFirst, IsMade}
+use Rattle.coord_laws.proofs.ForCallers.{IsFirst, IsMade, active_from, begins_same, made-begins, undecided_from}
 use Rattle.federation_laws.proofs.StoryGlobals.{coord-made}
 use Rattle.federation_laws.proofs.Told.{IsLine, line_is}
 use Rattle.std.proofs.lemmas.Bool.{or_left}
-use Rattle.mdb_base.proofs.NameLaws.{same_tid-equal, same_tx-from}
+use Rattle.mdb_base.proofs.ForCallers.{same_tid-equal, same_tx-from}
 use Rattle.rules_laws.specs.Active.{IsActive}
-use Rattle.rules_laws.proofs.CoordRecords.{none_committed}
-use Rattle.coord_laws.proofs.Begins.{begins_same, made-begins, active_from}
+use Rattle.rules_laws.proofs.ForCallers.{none_committed}
 
 -- no two attempts of one transaction are so, and who is undecided was begun
 pub record OnceHolds (past : CoordPast) : Type 0 where

@@ -6,10 +6,9 @@ use Rattle.mdb_base.specs.declared.names.Tx.{Tx}
 use Rattle.mdb_base.specs.declared.rows.Put.{Put}
 use Rattle.mdb_base.specs.Names.{same_site, same_tx}
 use Rattle.mdb_base.specs.Words.{first_where, map_some, some_of}
-use Rattle.mdb_base.proofs.NameLaws.{same_site-equal, same_tid-refl, same_tx-from}
-use Rattle.mdb_base.proofs.OptionLaws.{some_parts}
+use Rattle.mdb_base.proofs.ForCallers.{same_site-equal, same_tid-refl, same_tx-from, some_parts}
 use Rattle.order_laws.specs.Chains.{In}
-use Rattle.order_laws.proofs.Lists.{each_from, first_where_none}
+use Rattle.order_laws.proofs.ForCallers.{each_from, first_where_none}
 use Rattle.fed_rules.specs.declared.commands.Command.{Command}
 use Rattle.fed_rules.specs.declared.events.SiteEvent.{SiteEvent}
 use Rattle.fed_rules.specs.declared.events.SiteEvent.TheVariants as Ev
@@ -24,14 +23,14 @@ use Rattle.fed_rules.specs.Site.{site_line}
 use Rattle.fed_rules.specs.SitePast.{SiteHappening, SitePast, disk, records, epoch_start, engine_lines, run_of, live, live_of_tx}
 use Rattle.fed_rules.specs.SiteRecords.{Home, local_of}
 use Rattle.fed_rules.specs.Story.{Happened, AtSite, AtCoordinator, Nowhere, past_of, with_site, story_of}
-use Rattle.engine_laws.proofs.Runs.{tid_is, each_unended}
+use Rattle.engine_laws.proofs.ForCallers.{each_unended, tid_is}
 use Rattle.site_history.specs.Stories.{StoriesHaveRightLines}
 use Rattle.site_history.specs.Accesses.{seals}
 use Rattle.federation_laws.proofs.LocalLines.{local-made}
 use Rattle.federation_laws.proofs.LocalMoves.{Opens, LocalMove, Rests, Gone, Opening, Granting, Closing, Made}
 use Rattle.federation_laws.proofs.LocalStories.{not-asked}
 use Rattle.federation_laws.proofs.Members.{IsLocal, record-from, sealing-call}
-use Rattle.site_history.proofs.Agreement.{live_is}
+use Rattle.site_history.proofs.ForCallers.{live_is}
 use Rattle.federation_laws.proofs.Told.{SiteCause, IsSiteLine, IsLine, line_is}
 
 -- a run of the attempt is live, or a Local record of it is kept

@@ -2,7 +2,7 @@
 use Rattle.std.proofs.Common.{◌≡◌, Bool, true, false, ◌||◌, List, [], ◌∷◌, inl, inr, refl, sym, ap, subst, ◌∙◌}
 use Rattle.mdb_base.specs.declared.acts.Step.{Step}
 use Rattle.mdb_base.specs.Names.{same_site}
-use Rattle.mdb_base.proofs.NameLaws.{same_site-refl}
+use Rattle.mdb_base.proofs.ForCallers.{same_site-refl}
 use Rattle.order_laws.specs.Chains.{In}
 use Rattle.fed_rules.specs.declared.commands.Command.{Command}
 use Rattle.fed_rules.specs.declared.scenario.Scenario.{Scenario}

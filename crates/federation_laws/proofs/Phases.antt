@@ -14,9 +14,7 @@ use Rattle.mdb_base.specs.declared.replies.Why.TheVariants as Because
 use Rattle.mdb_base.specs.Names.{same_site}
 use Rattle.mdb_base.specs.Programs.{plain_act}
 use Rattle.mdb_base.specs.Words.{Each, when, given, how_many, found, with_some}
-use Rattle.mdb_base.proofs.ListLaws.{each_map, those_pass}
-use Rattle.mdb_base.proofs.Words.{cond-true}
-use Rattle.mdb_base.proofs.NameLaws.{same_tid-refl}
+use Rattle.mdb_base.proofs.ForCallers.{cond-true, each_map, same_tid-refl, those_pass}
 use Rattle.presumptions.specs.declared.Decision.{Decision}
 use Rattle.presumptions.specs.declared.Participant.{Participant}
 use Rattle.order_laws.specs.Search.{cycle_through}
@@ -38,7 +36,7 @@ use Rattle.fed_rules.specs.CoordPast.{CoordHappening, CoordPast, Standing, Undec
 use Rattle.fed_rules.specs.CoordRecords.{coord_frame, commits}
 use Rattle.fed_rules.specs.Happenings.{Trip, quiet, is_down, stopped, tripped}
 use Rattle.fed_rules.specs.Policies.{Policy}
-use Rattle.rules_laws.proofs.Scenarios.{undecided_open}
+use Rattle.rules_laws.proofs.ForCallers.{undecided_open}
 
 -- the attempt that the line is about is undecided, and may take tickets
 pub record MayTake (protocols : List Participant) (policy : Policy) (past : CoordPast) (event : CoordEvent) (tid : Tid) : Type 0 where

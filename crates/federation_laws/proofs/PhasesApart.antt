@@ -5,12 +5,10 @@ use Rattle.mdb_base.specs.declared.names.SiteId.{SiteId}
 use Rattle.mdb_base.specs.declared.names.Tid.{Tid}
 use Rattle.mdb_base.specs.Names.{same_site, same_tid}
 use Rattle.mdb_base.specs.Words.{Each, some_of, those}
-use Rattle.mdb_base.proofs.ListLaws.{among_some}
-use Rattle.mdb_base.proofs.NameLaws.{same_site-refl, same_tid-equal}
+use Rattle.mdb_base.proofs.ForCallers.{among_some, same_site-refl, same_tid-equal}
 use Rattle.presumptions.specs.declared.Participant.{Participant}
 use Rattle.order_laws.specs.Chains.{In}
-use Rattle.order_laws.proofs.Lists.{bool_is, each_of_at, in_front, in_last, in_those, is_among, is_in_true, map_among}
-use Rattle.order_laws.proofs.Names.{tells_tids}
+use Rattle.order_laws.proofs.ForCallers.{bool_is, each_of_at, in_front, in_last, in_those, is_among, is_in_true, map_among, tells_tids}
 use Rattle.fed_rules.specs.declared.commands.Command.{Command}
 use Rattle.fed_rules.specs.declared.events.CoordEvent.{CoordEvent}
 use Rattle.fed_rules.specs.declared.events.CoordEvent.TheVariants as Ev
@@ -26,10 +24,9 @@ use Rattle.fed_rules.specs.Scenarios.{policy, protocols}
 use Rattle.fed_rules.specs.Story.{Happened, AtSite, AtCoordinator, Nowhere, coord_past, with_coordinator, story_of}
 use Rattle.federation_laws.proofs.CoordEffects.{program-stays}
 use Rattle.federation_laws.proofs.CoordHolds.{is_begun, begun-stays, fresh-begun, IsFresh}
-use Rattle.coord_laws.proofs.Made.{Begins, IsMade}
+use Rattle.coord_laws.proofs.ForCallers.{Begins, IsMade, undecided_from}
 use Rattle.federation_laws.proofs.OnceGlobal.{OnceHolds, global-once}
 use Rattle.federation_laws.proofs.Phases.{IsChecked, MayBeSent, MayTake, coord_checked}
-use Rattle.coord_laws.proofs.Standings.{undecided_from}
 use Rattle.federation_laws.proofs.StoryGlobals.{coord-made, fresh-line, story-holds}
 use Rattle.federation_laws.proofs.Told.{IsLine, line_is}
 

@@ -8,19 +8,16 @@ use Rattle.presumptions.specs.declared.Protocol.{Protocol}
 use Rattle.presumptions.specs.declared.Protocol.TheVariants as By
 use Rattle.order_laws.specs.Chains.{Distinct}
 use Rattle.order_laws.specs.Merge as merge
-use Rattle.order_laws.proofs.Lists.{distinct_by_test}
-use Rattle.order_laws.proofs.Merge.{merge_acyclic}
-use Rattle.order_laws.proofs.Names.{tells_tids}
+use Rattle.order_laws.proofs.ForCallers.{distinct_by_test, merge_acyclic, tells_tids}
 use Rattle.fed_rules.specs.declared.commands.Command.{Command}
 use Rattle.fed_rules.specs.declared.scenario.Scenario.{Scenario}
 use Rattle.fed_rules.specs.Orders.{orders}
 use Rattle.fed_rules.specs.Plans.{IsScenario}
 use Rattle.fed_rules.specs.Reports.{printed_order}
 use Rattle.fed_rules.specs.Story.{story_of}
-use Rattle.fed_rules.proofs.Opened.{opened}
-use Rattle.fed_rules.proofs.Spelled.{tid, get, set, site, step_at, local, global, scenario_of, begin, step, commit, go, give, take}
+use Rattle.fed_rules.proofs.ForCallers.{begin, commit, get, give, global, go, local, opened, scenario_of, set, site, step, step_at, take, tid}
 use Rattle.commit_laws.specs.WrongRules.{BreaksTheOutcome, Rules, commits_forgotten_at_once, story_by}
-use Rattle.commit_laws.proofs.Refuted.{commits_forgotten_at_once_refuted}
+use Rattle.commit_laws.proofs.ForCallers.{commits_forgotten_at_once_refuted}
 use Rattle.federation_laws.specs.WrongRules.{commits_without_graph, by_decision_time, BreaksTheHeadline, HasNoOrder, IsNoMerge}
 
 -- two global transactions without a common key, and a local one at each site between them

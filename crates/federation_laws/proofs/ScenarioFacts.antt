@@ -7,11 +7,10 @@ use Rattle.mdb_base.specs.declared.names.Tx.{Tx}
 use Rattle.mdb_base.specs.Names.{same_site, same_tx}
 use Rattle.mdb_base.specs.Programs.{IsProgram}
 use Rattle.mdb_base.specs.Words.{Among, each_of, map_some}
-use Rattle.mdb_base.proofs.NameLaws.{same_site-equal}
-use Rattle.mdb_base.proofs.OptionLaws.{some_parts}
+use Rattle.mdb_base.proofs.ForCallers.{same_site-equal, some_parts}
 use Rattle.presumptions.specs.declared.Participant.{Participant}
 use Rattle.order_laws.specs.Chains.{In}
-use Rattle.order_laws.proofs.Lists.{each_at, each_of_at, first_where_some, some_of_is}
+use Rattle.order_laws.proofs.ForCallers.{each_at, each_of_at, first_where_some, some_of_is}
 use Rattle.fed_rules.specs.declared.scenario.Scenario.{Scenario}
 use Rattle.fed_rules.specs.declared.scenario.SiteLine.{SiteLine}
 use Rattle.fed_rules.specs.declared.scenario.TxLine.{TxLine}

@@ -6,7 +6,7 @@ use Rattle.mdb_base.specs.Names.{same_site}
 use Rattle.mdb_base.specs.Programs.{plain_act}
 use Rattle.mdb_base.specs.Rows.{Table}
 use Rattle.mdb_base.specs.Words.{item_at}
-use Rattle.mdb_base.proofs.NameLaws.{same_site-refl}
+use Rattle.mdb_base.proofs.ForCallers.{same_site-refl}
 use Rattle.fed_rules.specs.Runs.{Access, Got, Wrote, after}
 use Rattle.fed_rules.specs.Serial.{Tables, update, Ran, reads_after, tables_after, run_steps, alone}
 use Rattle.fed_rules.specs.SerialRuns.{ReadsAlone}

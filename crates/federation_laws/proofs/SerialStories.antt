@@ -8,9 +8,7 @@ use Rattle.mdb_base.specs.Rows.{look_up}
 use Rattle.mdb_base.specs.Words.{those}
 use Rattle.order_laws.specs.Chains.{In}
 use Rattle.order_laws.specs.Orders.{is_in}
-use Rattle.order_laws.proofs.Lists.{each_at, is_in_true}
-use Rattle.order_laws.proofs.Merge.{merge_names}
-use Rattle.order_laws.proofs.Names.{tells_tids}
+use Rattle.order_laws.proofs.ForCallers.{each_at, is_in_true, merge_names, tells_tids}
 use Rattle.fed_rules.specs.declared.scenario.Scenario.{Scenario}
 use Rattle.fed_rules.specs.Orders.{order_at, orders, reads_of, due_of, first_tables, IsMerge, IsSerial}
 use Rattle.fed_rules.specs.Runs.{Access}

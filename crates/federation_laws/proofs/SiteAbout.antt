@@ -1,5 +1,5 @@
 -- A line of a site is about one attempt: its engine lines, operations and records name no other one.
-use Rattle.site_history.proofs.LocalLines.{refusal_plain, act_plain}
+use Rattle.site_history.proofs.ForCallers.{act_plain, ended_records, refusal_plain}
 use Rattle.std.proofs.Common.{◌≡◌, ℕ, Bool, true, false, cond, ◌||◌, Option, Some, None, List, [], ◌∷◌, refl, ap}
 use Rattle.mdb_base.specs.declared.acts.PlainAct.{PlainAct}
 use Rattle.mdb_base.specs.declared.names.Tid.{Tid}
@@ -26,8 +26,7 @@ use Rattle.fed_rules.specs.Runs.{EngineLine, Run, tid_of}
 use Rattle.fed_rules.specs.Site.{with_lines, of_begin, of_act, seals_local, of_commit, of_abort, of_fate, did, unknown, first_work, next_work, next_take, repeated, work_live, of_work, take_live, of_take, votes_again, votes_no, votes_yes, seals_global, prepare_live, of_prepare, ack_of, settles, unheld, of_decide, of_ask, of_drop}
 use Rattle.fed_rules.specs.SitePast.{SiteHappening, SitePast, disk, epoch}
 use Rattle.fed_rules.specs.SiteRecords.{Home, site_frame, epoch_of}
-use Rattle.site_history.proofs.MessageLines.{ended_records}
-use Rattle.commit_laws.proofs.SiteEnds.{settling-tid}
+use Rattle.commit_laws.proofs.ForCallers.{settling-tid}
 
 -- the message is of this attempt, or no reply or vote
 abbrev pub Speaks : Tid → FromSite → Type 0

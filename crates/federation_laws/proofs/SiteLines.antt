@@ -4,7 +4,7 @@ use Rattle.mdb_base.specs.declared.names.Tid.{Tid}
 use Rattle.mdb_base.specs.declared.names.Tx.{Tx}
 use Rattle.mdb_base.specs.Names.{same_tid}
 use Rattle.mdb_base.specs.Words.{some_of, when}
-use Rattle.mdb_base.proofs.NameLaws.{same_tid-equal}
+use Rattle.mdb_base.proofs.ForCallers.{same_tid-equal}
 use Rattle.fed_rules.specs.declared.answers.Answer.TheVariants as Say
 use Rattle.fed_rules.specs.declared.events.SiteEvent.{SiteEvent}
 use Rattle.fed_rules.specs.declared.events.SiteEvent.TheVariants as Ev
@@ -17,8 +17,7 @@ use Rattle.fed_rules.specs.Happenings.{Trip, quiet, stops, comes_up, is_down, st
 use Rattle.fed_rules.specs.Site.{of_fate, of_give, of_back, answered, site_line, of_check}
 use Rattle.fed_rules.specs.SitePast.{SiteHappening, SitePast, disk, epoch, trip}
 use Rattle.fed_rules.specs.SiteRecords.{Home, site_frame}
-use Rattle.commit_laws.proofs.SiteEnds.{by-answered}
-use Rattle.commit_laws.proofs.SiteShut.{restored-sealed}
+use Rattle.commit_laws.proofs.ForCallers.{by-answered, restored-sealed}
 use Rattle.site_history.specs.Accesses.{seals}
 use Rattle.federation_laws.proofs.SiteAbout.{begin_about, act_about, commit_about, abort_about, work_about, take_about, prepare_about, decide_about, drop_about}
 use Rattle.federation_laws.proofs.SiteMoves.{Ending, IsSealing, Moves, Same}

@@ -15,9 +15,9 @@ use Rattle.fed_rules.specs.Happenings.{Trip, quiet, is_down, stopped, tripped}
 use Rattle.fed_rules.specs.Site.{of_give, of_back, answered, site_line, of_check}
 use Rattle.fed_rules.specs.SitePast.{SiteHappening, SitePast, disk, epoch, trip}
 use Rattle.fed_rules.specs.SiteRecords.{Home, site_frame}
-use Rattle.commit_laws.proofs.SiteEnds.{by-answered}
+use Rattle.commit_laws.proofs.ForCallers.{by-answered}
 use Rattle.federation_laws.proofs.SiteAbout.{SealsOnly, LocalAt, IsAbout, begin_about, act_about, commit_about, abort_about, work_about, take_about, prepare_about, decide_about, ask_about, drop_about, fate_about}
-use Rattle.order_laws.proofs.Joined.{each_cut}
+use Rattle.order_laws.proofs.ForCallers.{each_cut}
 
 -- a Local record that the call appends is of the attempt that commits
 abbrev pub IsOwnLocal : SiteEvent → Call SiteRecord → Type 0

@@ -7,7 +7,7 @@ use Rattle.mdb_base.specs.declared.replies.Reply.{Reply}
 use Rattle.mdb_base.specs.declared.replies.Reply.TheVariants as Reply_is
 use Rattle.mdb_base.specs.Names.{same_tid}
 use Rattle.mdb_base.specs.Words.{Each, some_of}
-use Rattle.mdb_base.proofs.JoinLaws.{length-map}
+use Rattle.mdb_base.proofs.ForCallers.{length-map}
 use Rattle.fed_rules.specs.declared.events.SiteEvent.{SiteEvent}
 use Rattle.fed_rules.specs.declared.events.SiteEvent.TheVariants as Ev
 use Rattle.fed_rules.specs.declared.messages.FromSite.{FromSite}
@@ -15,7 +15,7 @@ use Rattle.fed_rules.specs.declared.messages.FromSite.TheVariants as From
 use Rattle.fed_rules.specs.declared.messages.ToSite.TheVariants as To
 use Rattle.fed_rules.specs.Happenings.{stops, comes_up, is_down}
 use Rattle.fed_rules.specs.Replies.{access_reply, ticket_reply, granted, or_reply, rule}
-use Rattle.engine_laws.proofs.Forms.{IsStop, forms}
+use Rattle.engine_laws.proofs.ForCallers.{IsStop, forms}
 use Rattle.fed_rules.specs.Runs.{Start, EngineLine, Access, Run, has_ticket, tid_of, changed, run_at, published}
 use Rattle.fed_rules.specs.Site.{done, is_over}
 use Rattle.fed_rules.specs.SitePast.{SiteHappening, SitePast, records, epoch, epoch_start, engine_lines, live, live_one}

@@ -5,7 +5,7 @@ use Rattle.mdb_base.specs.Words.{Among}
 use Rattle.presumptions.specs.declared.Decision.{Decision}
 use Rattle.presumptions.specs.declared.Decision.TheVariants as Decided
 use Rattle.order_laws.specs.Chains.{In}
-use Rattle.order_laws.proofs.Lists.{each_from}
+use Rattle.order_laws.proofs.ForCallers.{each_from}
 use Rattle.fed_rules.specs.declared.commands.Command.{Command}
 use Rattle.fed_rules.specs.declared.records.SiteRecord.{SiteRecord}
 use Rattle.fed_rules.specs.declared.records.SiteRecord.TheVariants as Rec
@@ -18,7 +18,7 @@ use Rattle.fed_rules.specs.SitePast.{records}
 use Rattle.fed_rules.specs.SiteRecords.{Home, order_of, due_rows}
 use Rattle.fed_rules.specs.Story.{Story, coord_past, past_of, story_of}
 use Rattle.commit_laws.specs.Records.{IsEnded}
-use Rattle.commit_laws.proofs.Agreed.{agreed}
+use Rattle.commit_laws.proofs.ForCallers.{agreed}
 use Rattle.site_history.specs.Records.{TellOutcomes, TellsOutcome}
 use Rattle.site_history.specs.SiteOrders.{IsSerialOrder, IsSerialPast}
 use Rattle.site_history.specs.Stories.{OfSites}

@@ -4,8 +4,7 @@ use Rattle.std.proofs.lemmas.Bool.{or_left, or_right, or_cases}
 use Rattle.mdb_base.specs.declared.names.Tid.{Tid}
 use Rattle.mdb_base.specs.Names.{same_tid}
 use Rattle.mdb_base.specs.Words.{Each, some_of}
-use Rattle.mdb_base.proofs.NameLaws.{same_tid-refl}
-use Rattle.mdb_base.proofs.NumberLaws.{not_same_after}
+use Rattle.mdb_base.proofs.ForCallers.{not_same_after, same_tid-refl}
 use Rattle.presumptions.specs.declared.Protocol.{Protocol}
 use Rattle.fed_rules.specs.declared.events.SiteEvent.{SiteEvent}
 use Rattle.fed_rules.specs.declared.records.SiteRecord.{SiteRecord}
@@ -17,10 +16,7 @@ use Rattle.fed_rules.specs.SitePast.{SiteHappening, SitePast, disk, records, epo
 use Rattle.fed_rules.specs.SiteRecords.{Home, site_frame, epoch_of, doubt_of, start_of}
 use Rattle.rules_laws.specs.Durable.{IsFirm}
 use Rattle.commit_laws.specs.Records.{IsLooseEnded}
-use Rattle.commit_laws.proofs.SiteFacts.{Wrote}
-use Rattle.commit_laws.proofs.SiteLines.{Kept, Line}
-use Rattle.commit_laws.proofs.SiteShut.{restored-sealed}
-use Rattle.commit_laws.proofs.AgreeSite.{epoch-grows}
+use Rattle.commit_laws.proofs.ForCallers.{Kept, Line, Wrote, epoch-grows, restored-sealed}
 use Rattle.federation_laws.proofs.SiteMoves.{run_ops, ops_of, IsFrom, Grown, Goes, Move, Same, Going, Ending, Moves}
 
 abbrev pub ops_or : Option Run → List (Option Access) → List (Option Access)

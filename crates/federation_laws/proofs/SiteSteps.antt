@@ -5,7 +5,7 @@ use Rattle.mdb_base.specs.declared.names.Tid.{Tid}
 use Rattle.mdb_base.specs.declared.replies.Why.{Why}
 use Rattle.mdb_base.specs.Names.{same_tid}
 use Rattle.mdb_base.specs.Words.{Each, some_of}
-use Rattle.mdb_base.proofs.NameLaws.{same_tid-refl, same_tid-equal}
+use Rattle.mdb_base.proofs.ForCallers.{same_tid-equal, same_tid-refl}
 use Rattle.presumptions.specs.declared.Decision.{Decision}
 use Rattle.presumptions.specs.declared.Decision.TheVariants as Decided
 use Rattle.presumptions.specs.Table.{forces, acks}
@@ -23,14 +23,12 @@ use Rattle.fed_rules.specs.Runs.{EngineLine, Seals, Refuses, Aborts, Run, tid_of
 use Rattle.fed_rules.specs.Site.{votes_again, votes_no, votes_yes, seals_global, prepare_live, of_prepare, done, ack_of, settling_line, settles, unheld, of_decide, of_ask, of_drop, number_of}
 use Rattle.fed_rules.specs.SitePast.{SiteHappening, SitePast, disk, records, epoch, epoch_start, engine_lines, run_of, live, live_one, ends, is_closed}
 use Rattle.fed_rules.specs.SiteRecords.{Home, Held, site_frame, epoch_of, doubt_of}
-use Rattle.commit_laws.proofs.SiteShut.{given-up}
+use Rattle.commit_laws.proofs.ForCallers.{given-up, settling-tid}
 use Rattle.site_history.specs.Accesses.{seals}
 use Rattle.site_history.specs.Records.{IsPrepared}
 use Rattle.federation_laws.proofs.SiteAbout.{Speaks, SealsOnly, IsAbout}
 use Rattle.federation_laws.proofs.SiteMoves.{Same, Ending, Says, IsSealing, Moves, others-run, live-next}
-use Rattle.site_history.proofs.Agreement.{live_is}
-use Rattle.site_history.proofs.MessageLines.{ended_records}
-use Rattle.commit_laws.proofs.SiteEnds.{settling-tid}
+use Rattle.site_history.proofs.ForCallers.{ended_records, live_is}
 use Rattle.federation_laws.proofs.SiteOperations.{moves_when, moves_given}
 
 -- a record of another attempt doesn't seal this one

@@ -9,7 +9,7 @@ use Rattle.mdb_base.specs.declared.replies.Reply.{Reply}
 use Rattle.mdb_base.specs.Names.{same_site, same_tid, same_tx}
 use Rattle.mdb_base.specs.Words.{Among, map_some, first_where}
 use Rattle.order_laws.specs.Chains.{In}
-use Rattle.order_laws.proofs.Lists.{first_where_some}
+use Rattle.order_laws.proofs.ForCallers.{first_or_second, first_where_some}
 use Rattle.fed_rules.specs.declared.commands.Command.{Command}
 use Rattle.fed_rules.specs.declared.events.CoordEvent.TheVariants as To_coord
 use Rattle.fed_rules.specs.declared.events.SiteEvent.{SiteEvent}
@@ -27,24 +27,20 @@ use Rattle.fed_rules.specs.SitePast.{SiteHappening, SitePast, set_up_calls, epoc
 use Rattle.fed_rules.specs.SiteRecords.{Home, site_frame}
 use Rattle.fed_rules.specs.Story.{Story, Happened, AtSite, AtCoordinator, Nowhere, past_of, with_site, coord_past, sent_to, sends_to, sent_from, sends_from, story_of}
 use Rattle.commit_laws.specs.Records.{IsLooseEnded}
-use Rattle.rules_laws.proofs.Disks.{firm_quiet}
-use Rattle.commit_laws.proofs.SiteLines.{Line, site-lines}
+use Rattle.rules_laws.proofs.ForCallers.{firm_quiet}
+use Rattle.commit_laws.proofs.ForCallers.{Line, site-lines}
 use Rattle.federation_laws.proofs.Agreement.{Agrees, agrees-site}
 use Rattle.federation_laws.proofs.CoordAgreement.{agrees-coord}
 use Rattle.federation_laws.proofs.CoordEffects.{program-stays, effect}
 use Rattle.federation_laws.proofs.CoordHolds.{is_begun, Holds, holds-first, holds-next, IsFresh, AreDeclared, begun-next, begins-answer}
-use Rattle.coord_laws.proofs.Begun.{more_attempts, begun_number}
-use Rattle.coord_laws.proofs.MadeLines.{coord_made}
-use Rattle.coord_laws.proofs.Made.{Begins, IsMade}
+use Rattle.coord_laws.proofs.ForCallers.{Begins, IsMade, begun_number, coord_made, more_attempts}
 use Rattle.federation_laws.proofs.ScenarioFacts.{global_program-is, global-declared}
 use Rattle.federation_laws.proofs.SiteLines.{IsForeign, site_moves}
 use Rattle.federation_laws.proofs.SiteMoves.{Moves}
 use Rattle.federation_laws.proofs.SiteRuns.{RunsHold}
 use Rattle.federation_laws.proofs.Told.{CoordCause, SiteCause, IsCoordLine, IsSiteLine, IsLine, line_is}
-use Rattle.order_laws.proofs.Alike.{first_or_second}
 use Rattle.std.proofs.lemmas.List.{append-nil}
-use Rattle.mdb_base.proofs.NameLaws.{same_site-equal, same_tid-equal, same_tid-refl, same_tx-equal}
-use Rattle.mdb_base.proofs.OptionLaws.{some_parts}
+use Rattle.mdb_base.proofs.ForCallers.{same_site-equal, same_tid-equal, same_tid-refl, same_tx-equal, some_parts}
 
 -- what holds of an attempt at the coordinator of a story
 pub record StoryHolds (scenario : Scenario) (story : Story) (g : Tid) : Type 0 where

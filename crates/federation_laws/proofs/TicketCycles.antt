@@ -3,15 +3,13 @@ use Rattle.std.proofs.Common.{List}
 use Rattle.order_laws.specs.Chains.{Within}
 use Rattle.order_laws.specs.Search.{Linked}
 use Rattle.order_laws.specs.Tickets.{Ticketed, edge_between}
-use Rattle.order_laws.proofs.Chains.{acyclic_map}
-use Rattle.order_laws.proofs.Tickets.{linked}
+use Rattle.order_laws.proofs.ForCallers.{acyclic_map, linked}
 use Rattle.fed_rules.specs.declared.commands.Command.{Command}
 use Rattle.fed_rules.specs.declared.scenario.Scenario.{Scenario}
 use Rattle.fed_rules.specs.Story.{coord_past, story_of}
 use Rattle.federation_laws.specs.Edges.{committed, HasEdge, TicketsAreCycleFree}
-use Rattle.coord_laws.proofs.Cycles.{IsFree}
-use Rattle.coord_laws.proofs.Past.{commits_free}
-use Rattle.commit_laws.proofs.Links.{story_goes_on}
+use Rattle.coord_laws.proofs.ForCallers.{IsFree, commits_free}
+use Rattle.commit_laws.proofs.ForCallers.{story_goes_on}
 
 pub free-story : (scenario : Scenario) (commands : List Command) → IsFree (committed (story_of scenario commands))
 free-story scenario commands = commits_free _ _ (coord_past (story_of scenario commands)) (story_goes_on scenario commands)

@@ -8,7 +8,7 @@ use Rattle.mdb_base.specs.declared.names.Tx.{Tx}
 use Rattle.mdb_base.specs.Programs.{plain_act}
 use Rattle.mdb_base.specs.Words.{item_at}
 use Rattle.order_laws.specs.Chains.{In}
-use Rattle.order_laws.proofs.InLaws.{item_at-in}
+use Rattle.order_laws.proofs.ForCallers.{item_at-in}
 use Rattle.fed_rules.specs.declared.commands.Command.{Command}
 use Rattle.fed_rules.specs.declared.commands.Command.TheVariants as Cmd
 use Rattle.fed_rules.specs.declared.events.CoordEvent.{CoordEvent}
@@ -26,8 +26,8 @@ use Rattle.fed_rules.specs.SitePast.{SiteHappening, SitePast, live, live_of_tx, 
 use Rattle.fed_rules.specs.SiteRecords.{Home}
 use Rattle.fed_rules.specs.Story.{Story, Happened, AtSite, AtCoordinator, Nowhere, past_of, coord_past, sent_to, sent_from, happens, run_reads}
 use Rattle.rules_laws.specs.Lines as Lines
-pub use Rattle.rules_laws.proofs.Declared.{home-again, its-site as home_is-site, local-declared as local_home-declared}
-use Rattle.rules_laws.proofs.Lines as Asked
+pub use Rattle.rules_laws.proofs.ForCallers.{home-again, its-site as home_is-site, local-declared as local_home-declared}
+use Rattle.rules_laws.proofs.ForCallers as Asked
 
 -- what makes an event of the coordinator come
 abbrev pub CoordCause : Scenario → Story → CoordEvent → Type 0

@@ -7,7 +7,7 @@ use Rattle.std.proofs.lemmas.List.{length-map, map-append}
 use Rattle.std.proofs.lemmas.Option.{slice_get_past}
 use Rattle.std.proofs.lemmas.Result.{IfErr-weaker, IfOk-weaker}
 use Rattle.mdb_base.specs.declared.names.SiteId.{SiteId}
-use Rattle.mdb_base.proofs.PlaceLaws.{slice_get-there}
+use Rattle.mdb_base.proofs.ForCallers.{slice_get-there}
 use Rattle.fed_rules.specs.declared.scenario.Scenario.{Scenario}
 use Rattle.fed_rules.specs.Scenarios.{home_of, sites}
 use Rattle.fed_rules.specs.SiteRecords.{Home}
@@ -19,9 +19,7 @@ use Rattle.conservative_take.specs.AnyPolicies.{policy_is}
 use Rattle.scripted_link.specs.Rings.{Wire}
 use Rattle.fed_world.specs.declared.world.World.{World}
 use Rattle.fed_world.specs.Faults.{faults_of}
-use Rattle.fed_world.proofs.DeclaredPlaces.{home_at_place}
-use Rattle.fed_world.proofs.SeatsByPlace.{has_item}
-use Rattle.fed_world.proofs.SeenDisks.{mapped_at}
+use Rattle.fed_world.proofs.ForCallers.{has_item, home_at_place, mapped_at}
 use Rattle.host_laws.specs.CoordPlans.{CoordPlan}
 use Rattle.host_laws.specs.Plans.{SitePlan}
 use Rattle.fed_hosts.specs.declared.coord_parts.CoordParts.{CoordParts}

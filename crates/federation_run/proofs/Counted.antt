@@ -22,7 +22,7 @@ use Rattle.fed_rules.specs.SiteRecords.{Home}
 use Rattle.fed_rules.specs.Story as Told
 use Rattle.closing_laws.specs.Finished.{begun, begun_at}
 use Rattle.trace_merge.specs.Traces.{Entry, IsTrace, lines_of, list_of}
-use Rattle.world_laws.proofs.Sent.{homed}
+use Rattle.world_laws.proofs.ForCallers.{homed}
 use Rattle.host_laws.specs.CoordHistory.{IsCoordHistory}
 use Rattle.host_laws.specs.CoordPlans.{CoordPlan}
 use Rattle.host_laws.specs.CoordTurns.{CoordTurn, MayAnswer, coord_begun_in, coord_behind, coord_past_of, coord_request_at}
@@ -31,10 +31,9 @@ use Rattle.host_laws.specs.Logs.{AreLists, AreLogs, CoordLog, Scripts, SiteLog}
 use Rattle.host_laws.specs.Merged.{AreShort, TellsLogs, commands_of, lines_in, story_in}
 use Rattle.host_laws.specs.Plans.{SitePlan, most_lines}
 use Rattle.host_laws.specs.Turns.{SiteTurn, begun_in, past_of, request_at}
-use Rattle.host_laws.proofs.CarriedHosts.{by_list, host_at, site_low}
-use Rattle.host_laws.proofs.Sides.{of_other, of_own}
+use Rattle.host_laws.proofs.ForCallers.{by_list, host_at, of_other, of_own, site_low}
 use Rattle.fed_hosts.specs.Keeps.{most_begun}
-use Rattle.fed_hosts.proofs.CoordAsked.{submit_counts}
+use Rattle.fed_hosts.proofs.ForCallers.{submit_counts}
 use Rattle.federation_run.specs.Running.{AreFewBegun, most_merged}
 use Rattle.federation_run.proofs.Homes.{home_site}
 

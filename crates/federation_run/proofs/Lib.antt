@@ -1,18 +1,19 @@
-pub mod Places
-pub mod Rooms
-pub mod Homes
-pub mod Untrimmed
-pub mod Unchecked
-pub mod FatesRise
-pub mod WiredSites
-pub mod Opened
-pub mod Seated
-pub mod Closed
-pub mod Started
-pub mod Sorts
-pub mod Owned
-pub mod Logged
-pub mod Counted
-pub mod Ran
-pub mod SettledParts
-pub mod Settled
+pub mod ForCallers
+mod Places
+mod Rooms
+mod Homes
+mod Untrimmed
+mod Unchecked
+mod FatesRise
+mod WiredSites
+mod Opened
+mod Seated
+mod Closed
+mod Started
+mod Sorts
+mod Owned
+mod Logged
+mod Counted
+mod Ran
+mod SettledParts
+mod Settled

@@ -8,10 +8,7 @@ use Rattle.std.proofs.lemmas.Option.{get_or_from_slice_get, slice_get_past, slic
 use Rattle.mdb_base.specs.declared.names.SiteId.{SiteId}
 use Rattle.mdb_base.specs.Rising.{IsRising}
 use Rattle.mdb_base.specs.Words.{Each, found}
-use Rattle.mdb_base.proofs.PlaceLaws.{made_of, slice_get-one}
-use Rattle.mdb_base.proofs.EachLaws.{each_at_place}
-use Rattle.mdb_base.proofs.RisingLaws.{one_place}
-use Rattle.mdb_base.proofs.JoinLaws.{length-map}
+use Rattle.mdb_base.proofs.ForCallers.{each_at_place, length-map, made_of, one_place, slice_get-one}
 use Rattle.presumptions.specs.declared.Participant.{Participant}
 use Rattle.fed_rules.specs.declared.commands.Stamped.{Stamped}
 use Rattle.fed_rules.specs.declared.messages.FromSite.{FromSite}
@@ -30,10 +27,7 @@ use Rattle.scripted_link.specs.Outlets.{offered, outlet_wire}
 use Rattle.scripted_link.specs.Rings.{Ring, Wire}
 use Rattle.scripted_link.specs.Script.{let_through}
 use Rattle.trace_merge.specs.Traces.{list_of}
-use Rattle.fed_world.proofs.DeclaredPlaces.{home_at_place}
-use Rattle.fed_world.proofs.DeclaredSites.{declared_ranged, declared_rise}
-use Rattle.fed_world.proofs.SeatsByPlace.{has_item}
-use Rattle.fed_world.proofs.SeenDisks.{mapped_at}
+use Rattle.fed_world.proofs.ForCallers.{declared_ranged, declared_rise, has_item, home_at_place, mapped_at}
 use Rattle.host_laws.specs.CoordHearing.{HasHeardFrom}
 use Rattle.host_laws.specs.Hearing.{HasHeard}
 use Rattle.host_laws.specs.CoordPlans.{CoordPlan}

@@ -6,7 +6,7 @@ use Rattle.std.proofs.lemmas.List.{length-map}
 use Rattle.std.proofs.lemmas.Option.{get_or_from_slice_get}
 use Rattle.mdb_base.specs.declared.names.SiteId.{SiteId}
 use Rattle.mdb_base.specs.Words.{Each, each_of, or_else, those}
-use Rattle.mdb_base.proofs.PlaceLaws.{made_of, slice_get-one}
+use Rattle.mdb_base.proofs.ForCallers.{made_of, slice_get-one}
 use Rattle.presumptions.specs.declared.Participant.{Participant}
 use Rattle.fed_rules.specs.declared.scenario.Scenario.{Scenario}
 use Rattle.fed_rules.specs.declared.scenario.SiteLine.{SiteLine}
@@ -25,8 +25,7 @@ use Rattle.scripted_link.specs.Outlets.{outlet_wire}
 use Rattle.scripted_link.specs.Rings.{Ring, Wire}
 use Rattle.fed_world.specs.Asks.{terms_of}
 use Rattle.fed_world.specs.Faults.{faults_of}
-use Rattle.fed_world.proofs.SeatsByPlace.{has_item}
-use Rattle.fed_world.proofs.SeenDisks.{mapped_at}
+use Rattle.fed_world.proofs.ForCallers.{has_item, mapped_at}
 use Rattle.host_laws.specs.CoordPlans.{CoordPlan}
 use Rattle.host_laws.specs.Links.{script_of}
 use Rattle.host_laws.specs.Plans.{SitePlan}

@@ -5,8 +5,7 @@ use Rattle.mdb_base.specs.declared.names.SiteId.{SiteId}
 use Rattle.mdb_base.specs.declared.names.Tx.{Tx}
 use Rattle.mdb_base.specs.Rising.{IsRising}
 use Rattle.mdb_base.specs.Words.{found, or_else}
-use Rattle.mdb_base.proofs.PlaceLaws.{made_of}
-use Rattle.mdb_base.proofs.RisingLaws.{one_place}
+use Rattle.mdb_base.proofs.ForCallers.{made_of, one_place}
 use Rattle.fed_rules.specs.declared.commands.Stamped.{Stamped}
 use Rattle.fed_rules.specs.declared.scenario.Scenario.{Scenario}
 use Rattle.fed_rules.specs.Plans.{IsScenario}
@@ -18,8 +17,7 @@ use Rattle.local_dbms.specs.Stands.{own_programs}
 use Rattle.scripted_link.specs.Inlets.{inlet_ring, returned, taken}
 use Rattle.scripted_link.specs.Outlets.{offered, outlet_wire}
 use Rattle.scripted_link.specs.Rings.{Ring, Wire}
-use Rattle.fed_world.proofs.DeclaredPlaces.{home_at_place}
-use Rattle.fed_world.proofs.DeclaredSites.{declared_rise}
+use Rattle.fed_world.proofs.ForCallers.{declared_rise, home_at_place}
 use Rattle.host_laws.specs.Hearing.{HasHeard}
 use Rattle.host_laws.specs.History.{IsHistory}
 use Rattle.host_laws.specs.Logs.{SiteLog}

@@ -7,9 +7,7 @@ use Rattle.std.proofs.lemmas.Option.{get_or_from_slice_get}
 use Rattle.mdb_base.specs.declared.names.SiteId.{SiteId}
 use Rattle.mdb_base.specs.declared.names.Tx.{Tx}
 use Rattle.mdb_base.specs.Counts.{HasRisen}
-use Rattle.mdb_base.proofs.PlaceLaws.{made_of, slice_get-one, same_lists}
-use Rattle.mdb_base.proofs.RisingLaws.{rises_by_place}
-use Rattle.mdb_base.proofs.JoinLaws.{length-map, length-option}
+use Rattle.mdb_base.proofs.ForCallers.{length-map, length-option, made_of, rises_by_place, same_lists, slice_get-one}
 use Rattle.fed_rules.specs.declared.commands.Command.{Command}
 use Rattle.fed_rules.specs.declared.commands.Line.{Line}
 use Rattle.fed_rules.specs.declared.commands.Stamped.{Stamped}
@@ -40,17 +38,15 @@ use Rattle.session_report.specs.Marks.{kept_marks}
 use Rattle.session_routes.specs.Posting.{message_to}
 use Rattle.fed_world.specs.Seats.{AreFew}
 use Rattle.trace_merge.specs.Traces.{Entry, IsTrace, lines_of, list_of}
-use Rattle.world_laws.proofs.Sent.{messages_declared}
+use Rattle.world_laws.proofs.ForCallers.{messages_declared}
 use Rattle.fed_world.specs.declared.cores.Cores.{Cores}
 use Rattle.fed_world.specs.Asks.{terms_of}
 use Rattle.fed_world.specs.Faults.{faults_of}
 use Rattle.fed_world.specs.Gathering.{Gathers, GathersAt, GathersOn, IsChannel, IsGathered}
 use Rattle.fed_world.specs.FreshWorlds.{AreDisks}
 use Rattle.fed_world.specs.Worlds.{DbmsRecalls, DbmsStands, ManagerRecalls, ManagerStands, OfManager, OnDisk}
-use Rattle.fed_world.proofs.DeclaredPlaces.{at_its_place, no_home_placeless}
-use Rattle.fed_world.proofs.DeclaredSites.{declared_rise}
+use Rattle.fed_world.proofs.ForCallers.{at_its_place, declared_rise, has_item, no_home_placeless}
 use Rattle.session_routes.specs.Routes.{place_in}
-use Rattle.fed_world.proofs.SeatsByPlace.{has_item}
 use Rattle.host_laws.specs.CoordTurns.{CoordTurn, coord_past_of, coord_sends_at, sent_to}
 use Rattle.host_laws.specs.Links.{script_of}
 use Rattle.host_laws.specs.Logs.{AreLists, AreLogs, CoordLog, SiteLog}
@@ -59,7 +55,7 @@ use Rattle.host_laws.specs.Plans.{SitePlan, most_lines}
 use Rattle.host_laws.specs.Stops.{AreSettled, StopsAreArmed}
 use Rattle.host_laws.specs.Turns as Turns
 use Rattle.host_laws.specs.Turns.{SiteTurn, begun_in, request_at, sends_at, sent_by}
-use Rattle.host_laws.proofs.Sides.{few_sent}
+use Rattle.host_laws.proofs.ForCallers.{few_sent}
 use Rattle.fed_hosts.specs.declared.ports.Port.{Port}
 use Rattle.fed_hosts.specs.CoordKeeps.{IsCoordStanding, IsPortLogged}
 use Rattle.fed_hosts.specs.Keeps.{IsCounting, IsStanding, most_begun}

@@ -5,11 +5,11 @@ use mathlib.Core.List.{IsPrefix}
 use Rattle.std.proofs.lemmas.Bool.{leb-false, leb-true}
 use Rattle.std.proofs.lemmas.List.{append-nil, length-append}
 use Rattle.std.proofs.lemmas.Option.{slice_get_within}
-use Rattle.mdb_base.proofs.PlaceLaws.{slice_get-front, slice_get-one}
+use Rattle.mdb_base.proofs.ForCallers.{slice_get-front, slice_get-one}
 use Rattle.journal_disk.specs.Disk.{Seen}
 use Rattle.any_engine.specs.Stands as Engines
 use Rattle.scripted_link.specs.Rings.{Wire}
-use Rattle.fed_world.proofs.SeenDisks.{mapped_at}
+use Rattle.fed_world.proofs.ForCallers.{mapped_at}
 use Rattle.host_laws.specs.Plans.{SitePlan}
 use Rattle.fed_hosts.specs.Hosts.{CanOpen}
 use Rattle.federation_run.specs.declared.wired.WiredSite.{WiredSite}

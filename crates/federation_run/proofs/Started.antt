@@ -9,7 +9,7 @@ use Rattle.local_dbms.specs.declared.dbms.LocalDbms.{LocalDbms}
 use Rattle.fed_world.specs.declared.cores.Cores.{Cores}
 use Rattle.fed_world.specs.declared.world.World.{World}
 use Rattle.fed_world.specs.FreshWorlds.{Stands}
-use Rattle.fed_world.proofs.SeatsByPlace.{has_item}
+use Rattle.fed_world.proofs.ForCallers.{has_item}
 use Rattle.federation_run.specs.Wired.{AreFreshActors, IsStood}
 
 module _ (tells : Bool) (world : World) (disks : List Seen) (scenario : Scenario) (s : Stands tells world disks scenario []) where

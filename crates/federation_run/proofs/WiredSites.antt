@@ -3,7 +3,7 @@ use Rattle.std.proofs.Common.{◌≡◌, Bool, ℕ, zero, suc, ◌+◌, ◌<◌,
 use Rattle.std.proofs.lemmas.List.{length-append, length-drop}
 use Rattle.std.proofs.lemmas.Option.{slice_get_within}
 use Rattle.mdb_base.specs.declared.names.SiteId.{SiteId}
-use Rattle.mdb_base.proofs.PlaceLaws.{slice_get-one}
+use Rattle.mdb_base.proofs.ForCallers.{slice_get-one}
 use Rattle.fed_rules.specs.declared.scenario.Scenario.{Scenario}
 use Rattle.fed_rules.specs.Scenarios.{global_program, sites}
 use Rattle.journal_disk.specs.Disk.{Seen}
@@ -13,7 +13,7 @@ use Rattle.global_manager.specs.declared.manager.GlobalManager.{GlobalManager}
 use Rattle.local_dbms.specs.declared.dbms.LocalDbms.{LocalDbms}
 use Rattle.fed_world.specs.Asks.{terms_of}
 use Rattle.fed_world.specs.Worlds.{ManagerStands}
-use Rattle.fed_world.proofs.SeatsByPlace.{has_item}
+use Rattle.fed_world.proofs.ForCallers.{has_item}
 use Rattle.fed_hosts.specs.declared.ports.Port.{Port}
 use Rattle.federation_run.specs.declared.wired.WiredActors.{WiredActors}
 use Rattle.federation_run.specs.declared.wired.WiredSite.{WiredSite}

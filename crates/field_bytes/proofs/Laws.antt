@@ -4,7 +4,7 @@ use Rattle.std.proofs.lemmas.Bool.{and_parts, and_from, leb-true, ltb-true, le-l
 use Rattle.std.proofs.lemmas.List.{append_assoc}
 use Rattle.std.proofs.lemmas.Option.{same_Some}
 use Rattle.byte_numbers.specs.Numbers.{IsBytes, number}
-use Rattle.byte_numbers.proofs.Numbers.{Takes, number_takes}
+use Rattle.byte_numbers.proofs.ForCallers.{Takes, number_takes}
 use Rattle.mdb_base.specs.declared.names.Tid.{Tid}
 use Rattle.presumptions.specs.declared.Decision.{Decision}
 use Rattle.presumptions.specs.declared.Decision.TheVariants.{Commit, Abort}

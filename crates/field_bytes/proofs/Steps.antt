@@ -2,7 +2,7 @@
 use Rattle.std.proofs.Common.{◌≡◌, ℕ, ◌<◌, ◌^◌, Bool, true, false, cond, List, ◌++◌, Option, Some, None, refl, sym, ap, ◌∙◌}
 use Rattle.std.proofs.lemmas.List.{append_assoc}
 use Rattle.byte_numbers.specs.Numbers.{number, number_at, ◌>>=◌}
-use Rattle.byte_numbers.proofs.Numbers.{Takes, number_again}
+use Rattle.byte_numbers.proofs.ForCallers.{Takes, number_again}
 
 -- a reading behind another one found something, so the first one did
 pub bind_some : {A B : Type 0} (o : Option A) (f : A → Option B) (y : B) → (o >>= f) ≡ Some y → (x : A) × (o ≡ Some x) × (f x ≡ Some y)

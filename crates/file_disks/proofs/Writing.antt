@@ -2,7 +2,7 @@
 use Rattle.std.proofs.Common.{◌≡◌, ℕ, ◌+◌, ◌-◌, ◌≤◌, List, ◌++◌, length, take, drop, sym, ◌∙◌, ap, arith, append_assoc, length-append, length-drop, length-take-le, take-add}
 use Rattle.journal_disk.specs.Disk.{Image, appended}
 use Rattle.file_disks.specs.Files.{IsEnd}
-use Rattle.mdb_base.proofs.PlaceLaws.{take_left}
+use Rattle.mdb_base.proofs.ForCallers.{take_left}
 
 -- a front of the rest goes behind the front that was written
 pub appended-more : (piece : List ℕ) (before : Image) (done count : ℕ) → appended (take count (take (length piece - done) (drop done piece))) (appended (take done piece) before) ≡ appended (take (done + count) piece) before

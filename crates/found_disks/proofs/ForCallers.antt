@@ -1,9 +1,7 @@
 -- What callers cite of the disks that are read.
-use Rattle.std.proofs.Common.{◌≡◌, ℕ, Some, List, slice_get, subst}
-use Rattle.mdb_base.proofs.PlaceLaws.{slice_get-one}
-use Rattle.journal_disk.specs.Disk.{Image}
-use Rattle.found_disks.specs.Reading.{HasBytes}
-
--- what holds of the bytes of a disk, of the image that stands there
-pub bytes_there : (images : List Image) (number : ℕ) (P : List ℕ → Type 0) → HasBytes images number P → (image : Image) → slice_get images number ≡ Some image → P image.bytes
-bytes_there images number P has image at = subst (λ (z : Image). P z.bytes) (slice_get-one images number has.image image has.own at) has.holds
+pub use Rattle.found_disks.proofs.BytesThere.{bytes_there}
+pub use Rattle.found_disks.proofs.InRange.{found_range}
+pub use Rattle.found_disks.proofs.OneAnswer.{usable_or_foreign}
+pub use Rattle.found_disks.proofs.Puts.{put_calm, put_rose, same_images, same_length}
+pub use Rattle.found_disks.proofs.Readings.{told_later}
+pub use Rattle.found_disks.proofs.UsableFinds.{first_reversed, members_are}

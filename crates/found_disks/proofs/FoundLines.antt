@@ -1,7 +1,7 @@
 -- A session that goes on from short disks begins with few lines at its sites: the payloads of a journal that is read have no more bytes than its disk.
 use Rattle.std.proofs.Common.{◌≡◌, ℕ, ◌+◌, ◌≤◌, ◌^◌, List, [], ◌∷◌, ◌++◌, length, map, reverse, refl, ap, arith}
 use Rattle.mdb_base.specs.Words.{Each}
-use Rattle.mdb_base.proofs.JoinLaws.{length-append, reverse_more}
+use Rattle.mdb_base.proofs.ForCallers.{length-append, reverse_more}
 use Rattle.fed_rules.specs.declared.records.SiteRecord.{SiteRecord}
 use Rattle.fed_rules.specs.Disk.{bytes_of}
 use Rattle.fed_rules.specs.Found.{Journal}
@@ -12,8 +12,7 @@ use Rattle.journal_disk.specs.Disk.{Image}
 use Rattle.journal_disk.specs.Frames.{frame_in, frame_size, frames}
 use Rattle.frame_journal.specs.Journal.{Kept, records}
 use Rattle.frame_journal.specs.Records.{Entry, entry_frame, spelled_size, values}
-use Rattle.frame_journal.proofs.Entries.{new_size, old_size}
-use Rattle.frame_journal.proofs.Keeping.{length-frames}
+use Rattle.frame_journal.proofs.ForCallers.{length-frames, new_size, old_size}
 use Rattle.site_journal.specs.PayloadSizes.{payload_has_size}
 use Rattle.site_journal.specs.Spelling as Sites
 use Rattle.found_laws.specs.FoundLines.{FoundLinesFit}

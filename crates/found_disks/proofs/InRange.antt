@@ -3,9 +3,8 @@ use Rattle.std.proofs.Common.{ℕ, ◌+◌, Option, Some, None, List, [], ◌∷
 use Rattle.std.specs.List.{AllByRecursion}
 use Rattle.mdb_base.specs.declared.names.Tid.{Tid}
 use Rattle.mdb_base.specs.Words.{Each, with_some}
-use Rattle.mdb_base.proofs.ListLaws.{append_each}
-use Rattle.mdb_base.proofs.OptionLaws.{some_parts}
-use Rattle.order_laws.proofs.InLaws.{each_reverse}
+use Rattle.mdb_base.proofs.ForCallers.{append_each, some_parts}
+use Rattle.order_laws.proofs.ForCallers.{each_reverse}
 use Rattle.fed_rules.specs.declared.records.CoordRecord.{CoordRecord}
 use Rattle.fed_rules.specs.declared.records.CoordRecord.TheVariants as Coord_rec
 use Rattle.fed_rules.specs.declared.records.SiteRecord.{SiteRecord}

@@ -1,8 +1,9 @@
 pub mod ForCallers
-pub mod FoundLines
-pub mod InRange
-pub mod Puts
-pub mod Readings
-pub mod Finds
-pub mod UsableFinds
-pub mod OneAnswer
+mod BytesThere
+mod FoundLines
+mod InRange
+mod Puts
+mod Readings
+mod Finds
+mod UsableFinds
+mod OneAnswer

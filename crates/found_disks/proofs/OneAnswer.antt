@@ -3,14 +3,13 @@ use Rattle.std.proofs.Common.{◌≡◌, ◌≤◌, ◌<◌, ◌+◌, ◌-◌, �
 use Rattle.std.specs.Prelude.{slice_get}
 use Rattle.std.specs.List.{AllByRecursion}
 use Rattle.std.proofs.lemmas.Bool.{cases_lt}
-use Rattle.mdb_base.proofs.PlaceLaws.{slice_get-below}
+use Rattle.mdb_base.proofs.ForCallers.{slice_get-below}
 use Rattle.fed_rules.specs.declared.records.CoordRecord.{CoordRecord}
 use Rattle.fed_rules.specs.declared.records.SiteRecord.{SiteRecord}
 use Rattle.journal_disk.specs.Disk.{Image}
 use Rattle.frame_journal.specs.Journal.{Kept, records}
 use Rattle.frame_journal.specs.Records.{Entry, entries_at, entry_frame, values}
-use Rattle.frame_journal.proofs.Apart.{one_list}
-use Rattle.frame_journal.proofs.ReadOn.{records_again}
+use Rattle.frame_journal.proofs.ForCallers.{one_list, records_again}
 use Rattle.coord_journal.specs.Exact as coordinators
 use Rattle.coord_journal.specs.Spelling as Coordinators
 use Rattle.site_journal.specs.Exact as sites
@@ -19,7 +18,7 @@ use Rattle.usable_journals.specs.Disks.{AreUsableFrom, IsForeignAt, IsLeastSite,
 use Rattle.found_disks.specs.declared.reading.Journals.{Journals}
 use Rattle.found_disks.specs.Finding.{IsFirstForeign, NamesOf}
 use Rattle.found_disks.specs.Reading.{AreRead, AreReadFrom, HasBytes, IsDamagedAt, IsFirstDamaged, IsReadAt, IsReadFrom, IsSiteDamaged}
-use Rattle.found_disks.proofs.ForCallers.{bytes_there}
+use Rattle.found_disks.proofs.BytesThere.{bytes_there}
 
 -- ---- one disk
 

@@ -3,8 +3,8 @@ use Rattle.std.proofs.Common.{◌≡◌, ◌≤◌, ◌<◌, ◌+◌, ℕ, zero,
 use Rattle.std.proofs.lemmas.Bool.{ltb-true}
 use Rattle.std.specs.List.{AllByRecursion}
 use Rattle.mdb_base.specs.Words.{Each, inserted, map_some, with_some}
-use Rattle.mdb_base.proofs.JoinLaws.{reverse_more}
-use Rattle.order_laws.proofs.InLaws.{each_reverse}
+use Rattle.mdb_base.proofs.ForCallers.{reverse_more}
+use Rattle.order_laws.proofs.ForCallers.{each_reverse}
 use Rattle.presumptions.specs.declared.Participant.{Participant}
 use Rattle.record_fields.specs.Sums.{an_open_attempt}
 use Rattle.fed_rules.specs.declared.records.CoordRecord.{CoordRecord}
@@ -24,7 +24,7 @@ use Rattle.frame_journal.specs.Journal.{Kept, records}
 use Rattle.coord_journal.specs.Spelling as Coordinators
 use Rattle.site_journal.specs.Spelling as Sites
 use Rattle.found_laws.specs.FoundSessions.{AreOfDisks, AreUsable}
-use Rattle.found_laws.proofs.PlanSites.{rise_all}
+use Rattle.found_laws.proofs.ForCallers.{rise_all}
 use Rattle.usable_journals.specs.Disks.{AreAllUnnamed, AreUsableFrom, IsUsableDisk, listed, member_at, members_from, on_disk}
 use Rattle.usable_journals.specs.SiteTests.{member_of}
 use Rattle.found_disks.specs.declared.reading.Journals.{Journals}

@@ -6,7 +6,7 @@ use Rattle.mdb_base.specs.declared.replies.Reply.{Reply}
 use Rattle.mdb_base.specs.Names.{same_site}
 use Rattle.mdb_base.specs.Words.{Each, when, given, those}
 use Rattle.order_laws.specs.Chains.{In}
-use Rattle.order_laws.proofs.Lists.{bool_is}
+use Rattle.order_laws.proofs.ForCallers.{bool_is}
 use Rattle.presumptions.specs.declared.Decision.{Decision}
 use Rattle.presumptions.specs.declared.Participant.{Participant}
 use Rattle.fed_rules.specs.declared.answers.Answer.{Answer}
@@ -22,11 +22,9 @@ use Rattle.fed_rules.specs.CoordPast.{CoordHappening, CoordPast, Standing, Undec
 use Rattle.fed_rules.specs.CoordRecords.{coord_frame}
 use Rattle.fed_rules.specs.Happenings.{Trip, is_down, quiet, stopped, tripped}
 use Rattle.fed_rules.specs.Policies.{Policy}
-use Rattle.rules_laws.proofs.CoordPasts.{BeginsNothing}
-use Rattle.coord_laws.proofs.Facts.{IsOpen, is_undecided}
-use Rattle.coord_laws.proofs.Made.{Begins, IsMade}
-use Rattle.coord_laws.proofs.Standings.{undecided_from}
-use Rattle.commit_laws.proofs.AgreeCoord.{to_site}
+use Rattle.rules_laws.proofs.ForCallers.{BeginsNothing}
+use Rattle.coord_laws.proofs.ForCallers.{Begins, IsMade, IsOpen, is_undecided, undecided_from}
+use Rattle.commit_laws.proofs.ForCallers.{to_site}
 
 -- a decision
 abbrev pub IsDecide : ToSite → Type 0

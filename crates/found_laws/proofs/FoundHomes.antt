@@ -6,7 +6,7 @@ use Rattle.mdb_base.specs.Names.{same_site}
 use Rattle.mdb_base.specs.declared.rows.Put.{Put}
 use Rattle.mdb_base.specs.Rows.{with_row, with_rows}
 use Rattle.mdb_base.specs.Words.{Each, found, inserted, with_some}
-use Rattle.mdb_base.proofs.NameLaws.{same_site-refl, same_site-below, same_site-above}
+use Rattle.mdb_base.proofs.ForCallers.{same_site-above, same_site-below, same_site-refl}
 use Rattle.presumptions.specs.declared.Participant.{Participant}
 use Rattle.order_laws.specs.Chains.{In}
 use Rattle.fed_rules.specs.declared.records.SiteRecord.{SiteRecord}
@@ -18,9 +18,8 @@ use Rattle.fed_rules.specs.Scenarios.{home_in, items_of, protocols_in}
 use Rattle.fed_rules.specs.SitePast.{SitePast}
 use Rattle.fed_rules.specs.SiteRecords.{Home}
 use Rattle.fed_rules.specs.Story.{AtSite, Story, found_site, found_sites, home_found, past_of, untold}
-use Rattle.rules_laws.proofs.Scenarios.{MembersRise}
-use Rattle.commit_laws.proofs.Declared.{by_site, rising_over, rising_on}
-use Rattle.commit_laws.proofs.Links.{member_of}
+use Rattle.rules_laws.proofs.ForCallers.{MembersRise}
+use Rattle.commit_laws.proofs.ForCallers.{by_site, member_of, rising_on, rising_over}
 
 -- ---- their order
 

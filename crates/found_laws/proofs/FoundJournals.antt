@@ -10,9 +10,7 @@ use Rattle.std.proofs.lemmas.Bool.{le-leb}
 use Rattle.mdb_base.specs.declared.names.SiteId.{SiteId}
 use Rattle.mdb_base.specs.Names.{same_site}
 use Rattle.mdb_base.specs.Words.{Each, with_some}
-use Rattle.mdb_base.proofs.ListLaws.{each_map}
-use Rattle.mdb_base.proofs.NameLaws.{same_site-refl, same_site-equal, same_site-below, same_site-above}
-use Rattle.mdb_base.proofs.OptionLaws.{some_parts}
+use Rattle.mdb_base.proofs.ForCallers.{each_map, same_site-above, same_site-below, same_site-equal, same_site-refl, some_parts}
 use Rattle.order_laws.specs.Chains.{In}
 use Rattle.presumptions.specs.declared.Participant.{Participant}
 use Rattle.fed_rules.specs.declared.records.SiteRecord.{SiteRecord}
@@ -25,9 +23,8 @@ use Rattle.fed_rules.specs.Scenarios.{home_in, items_of}
 use Rattle.fed_rules.specs.SiteRecords.{Home}
 use Rattle.fed_rules.specs.Story.{AtSite, found_site, found_sites, home_found, past_of, untold}
 use Rattle.fed_rules.specs.Usable.{IsOfSite, IsUsableSite, home_of_first}
-use Rattle.rules_laws.proofs.Scenarios.{MembersRise}
-use Rattle.commit_laws.proofs.Links.{member_of}
-use Rattle.commit_laws.proofs.Declared.{rising_from, rising_on, rising_over}
+use Rattle.rules_laws.proofs.ForCallers.{MembersRise}
+use Rattle.commit_laws.proofs.ForCallers.{member_of, rising_from, rising_on, rising_over}
 use Rattle.found_laws.specs.FoundSessions.{AreOfDisks}
 use Rattle.found_laws.proofs.FoundHomes.{append_none, skipped, taken, told_here, told_there}
 use Rattle.found_laws.proofs.PlanSites.{IsInRange}

@@ -2,7 +2,7 @@
 use Rattle.std.proofs.Common.{◌≡◌, ℕ, suc, length, ◌≤◌, Bool, true, false, cond, Some, None, List, [], ◌∷◌, ◌++◌, refl, sym, ap, subst, ◌∙◌, inl, inr, arith}
 use Rattle.mdb_base.specs.declared.names.Tx.{Tx}
 use Rattle.mdb_base.specs.Rising.{IsRising}
-use Rattle.order_laws.proofs.Lists.{each_at}
+use Rattle.order_laws.proofs.ForCallers.{each_at, item_at-in}
 use Rattle.fed_rules.specs.declared.commands.Command.TheVariants as Cmd
 use Rattle.fed_rules.specs.declared.events.SiteEvent.{SiteEvent}
 use Rattle.fed_rules.specs.declared.events.SiteEvent.TheVariants as Ev
@@ -14,19 +14,15 @@ use Rattle.fed_rules.specs.Site.{site_line, site_past_on}
 use Rattle.fed_rules.specs.SitePast.{SitePast}
 use Rattle.fed_rules.specs.Story.{sends_to, sent_to}
 use Rattle.rules_laws.specs.Lines.{SiteCause}
-use Rattle.commit_laws.proofs.Links.{IsNext, home-again, linked}
+use Rattle.commit_laws.proofs.ForCallers.{CoordinatorFits, IsNext, home-again, linked, protocols_rise}
 use Rattle.site_history.specs.Events.{AreSorted, IsSorted}
-use Rattle.site_history.proofs.UsableSites.{sites_go_on}
+use Rattle.site_history.proofs.ForCallers.{sites_go_on}
 use Rattle.mdb_base.specs.declared.names.SiteId.{SiteId}
 use Rattle.mdb_base.specs.declared.names.Tid.{Tid}
 use Rattle.mdb_base.specs.Names.{same_site}
 use Rattle.mdb_base.specs.Words.{Each}
-use Rattle.mdb_base.proofs.EachLaws.{among_split}
-use Rattle.mdb_base.proofs.JoinLaws.{append_nil}
-use Rattle.mdb_base.proofs.OptionLaws.{some_parts}
-use Rattle.mdb_base.proofs.NameLaws.{same_site-equal}
+use Rattle.mdb_base.proofs.ForCallers.{among_split, append_nil, same_site-equal, some_parts}
 use Rattle.order_laws.specs.Chains.{In}
-use Rattle.order_laws.proofs.InLaws.{item_at-in}
 use Rattle.fed_rules.specs.declared.commands.Command.{Command}
 use Rattle.fed_rules.specs.declared.records.SiteRecord.{SiteRecord}
 use Rattle.fed_rules.specs.CoordPast.{is_open}
@@ -40,12 +36,10 @@ use Rattle.fed_rules.specs.SiteRecords.{Home}
 use Rattle.fed_rules.specs.Story.{AtCoordinator, AtSite, Happened, Nowhere, Story, coord_past, happens, past_of, story_in, with_site}
 use Rattle.fed_rules.specs.Usable.{home_of_first}
 use Rattle.rules_laws.specs.Lines.{IsLine}
-use Rattle.rules_laws.proofs.Lines.{line_is}
+use Rattle.rules_laws.proofs.ForCallers.{line_is}
 use Rattle.coord_laws.specs.Pasts.{IsOpened}
-use Rattle.commit_laws.proofs.FoundSessions.{CoordinatorFits}
-use Rattle.coord_laws.proofs.UsableCoordinators.{usable_go_on}
+use Rattle.coord_laws.proofs.ForCallers.{usable_go_on}
 use Rattle.site_history.specs.FoundSites.{IsFoundSite}
-use Rattle.commit_laws.proofs.Declared.{protocols_rise}
 use Rattle.found_laws.specs.FoundSessions.{AreUsable, BeginsWith, IsOfFormat, RowsRise, UsableSessionsBegin, UsableSessionsGoOn}
 use Rattle.found_laws.specs.Resuming.{IsResuming}
 use Rattle.found_laws.proofs.CoordGentle.{IsDecide, NobodyIsOpen, decisions_alone, each_here}

@@ -9,8 +9,8 @@ use Rattle.fed_rules.specs.Resumed.{plan_of}
 use Rattle.fed_rules.specs.Scenarios.{global_program, local_home}
 use Rattle.fed_rules.specs.SiteRecords.{Home}
 use Rattle.fed_rules.specs.Story.{Story}
-use Rattle.rules_laws.proofs.CoordPasts.{BeginsNothing}
-use Rattle.commit_laws.proofs.Links.{CoordCame}
+use Rattle.rules_laws.proofs.ForCallers.{BeginsNothing}
+use Rattle.commit_laws.proofs.ForCallers.{CoordCame}
 
 -- a scenario without transactions
 pub record IsIdle (scenario : Scenario) : Type 0 where

@@ -1,9 +1,10 @@
-pub mod CoordGentle
-pub mod FoundHomes
-pub mod FoundJournals
+pub mod ForCallers
+mod CoordGentle
+mod FoundHomes
+mod FoundJournals
 mod FoundLines
-pub mod FoundSessions
-pub mod Idle
-pub mod Opening
-pub mod OutcomeWalk
-pub mod PlanSites
+mod FoundSessions
+mod Idle
+mod Opening
+mod OutcomeWalk
+mod PlanSites

@@ -5,8 +5,7 @@ use Rattle.mdb_base.specs.declared.names.Tid.{Tid}
 use Rattle.mdb_base.specs.declared.names.Tx.{Tx}
 use Rattle.mdb_base.specs.Names.{same_site}
 use Rattle.mdb_base.specs.Words.{Each, those}
-use Rattle.mdb_base.proofs.JoinLaws.{append_nil}
-use Rattle.mdb_base.proofs.ListLaws.{append_each}
+use Rattle.mdb_base.proofs.ForCallers.{append_each, append_nil}
 use Rattle.presumptions.specs.declared.Decision.{Decision}
 use Rattle.presumptions.specs.declared.Participant.{Participant}
 use Rattle.fed_rules.specs.declared.answers.Answer.{Answer}
@@ -30,7 +29,7 @@ use Rattle.fed_rules.specs.Sessions.{Session}
 use Rattle.fed_rules.specs.SitePast.{SitePast}
 use Rattle.fed_rules.specs.SiteRecords.{Held, Home}
 use Rattle.fed_rules.specs.Story.{AtCoordinator, AtSite, Story, coord_past, found_coordinator, found_site, found_sites, home_found, past_of, sent_from, sent_to, story_in, untold}
-use Rattle.commit_laws.proofs.FoundSessions.{of_coordinator, of_sites as no_coordinator}
+use Rattle.commit_laws.proofs.ForCallers.{of_coordinator, of_sites as no_coordinator}
 
 is_settling : Answer → Bool
 is_settling (Say.Settles tid decision) = true

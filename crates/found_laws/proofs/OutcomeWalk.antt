@@ -8,13 +8,8 @@ use Rattle.fed_rules.specs.CoordRecords.{outcome}
 use Rattle.fed_rules.specs.Scenarios.{policy, protocols}
 use Rattle.fed_rules.specs.Sessions.{Session}
 use Rattle.fed_rules.specs.Story.{AtCoordinator, AtSite, Happened, Nowhere, Story, coord_past, happens, story_in, with_coordinator}
-use Rattle.coord_laws.proofs.Lines.{coord_lines}
-use Rattle.coord_laws.proofs.MadeLines.{coord_made}
-use Rattle.coord_laws.proofs.Past.{any_member}
-use Rattle.coord_laws.proofs.Sound.{CoordSound}
-use Rattle.coord_laws.proofs.Turns.{Turn, same_outcome}
-use Rattle.commit_laws.proofs.FoundSessions.{CoordinatorFits, session_sound}
-use Rattle.commit_laws.proofs.Links.{IsNext, linked, numbered}
+use Rattle.coord_laws.proofs.ForCallers.{CoordSound, Turn, any_member, coord_lines, coord_made, same_outcome}
+use Rattle.commit_laws.proofs.ForCallers.{CoordinatorFits, IsNext, linked, numbered, session_sound}
 use Rattle.found_laws.proofs.CoordGentle.{NobodyIsOpen, closed_standing, still_nobody}
 use Rattle.found_laws.proofs.Idle.{IsIdle, begins_nothing}
 

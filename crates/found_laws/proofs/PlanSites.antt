@@ -3,8 +3,7 @@ use Rattle.std.proofs.Common.{◌≡◌, ◌<◌, ◌&&◌, ◌||◌, true, fals
 use Rattle.std.proofs.lemmas.Bool.{and_parts}
 use Rattle.std.specs.Prelude.{nat_lt}
 use Rattle.mdb_base.specs.Words.{Each, each_of, some_of}
-use Rattle.mdb_base.proofs.ListLaws.{each_inserted}
-use Rattle.mdb_base.proofs.NameLaws.{same_site-below}
+use Rattle.mdb_base.proofs.ForCallers.{each_inserted, same_site-below}
 use Rattle.presumptions.specs.declared.Participant.{Participant}
 use Rattle.fed_rules.specs.declared.scenario.Scenario.{Scenario}
 use Rattle.fed_rules.specs.declared.scenario.SiteLine.{SiteLine}
@@ -12,10 +11,9 @@ use Rattle.fed_rules.specs.Plans.{AreSites, IsScenario, all_differ, is_between, 
 use Rattle.fed_rules.specs.Resumed.{site_line_by}
 use Rattle.fed_rules.specs.Scenarios.{protocols, protocols_in}
 use Rattle.fed_rules.specs.SiteRecords.{Home}
-use Rattle.rules_laws.proofs.Scenarios.{MembersRise}
+use Rattle.rules_laws.proofs.ForCallers.{MembersRise}
 use Rattle.coord_laws.specs.FoundCoordinators.{RiseBySite}
-use Rattle.commit_laws.proofs.Links.{member_of}
-use Rattle.commit_laws.proofs.Declared.{members_rise, rising_on, rising_over}
+use Rattle.commit_laws.proofs.ForCallers.{member_of, members_rise, rising_on, rising_over}
 
 abbrev pub IsInRange : Participant → Type 0
 IsInRange member = is_between 1 8 member.site.0 ≡ true

@@ -3,7 +3,7 @@ use Rattle.std.proofs.Common.{◌≡◌, ℕ, List, ◌++◌, map, take, Option,
 use Rattle.std.specs.List.{AllByRecursion}
 use Rattle.std.proofs.lemmas.Option.{same_Some}
 use Rattle.journal_disk.specs.Frames.{Frame, IsPayload, written, frame}
-use Rattle.journal_disk.proofs.Whole.{one_frame, one_reading, payload_is, whole_left, written_is_frame}
+use Rattle.journal_disk.proofs.ForCallers.{one_frame, one_reading, payload_is, whole_left, written_is_frame}
 use Rattle.frame_journal.specs.Records.{Entry, values, entry_frame, AreRecordsOf, entries_at, records_within}
 use Rattle.frame_journal.proofs.ReadOn.{records_again}
 use Rattle.frame_journal.proofs.Within.{map-within}

@@ -5,13 +5,13 @@ use Rattle.mdb_base.specs.Words.{map_some}
 use Rattle.journal_disk.specs.declared.frames.Version.{Version}
 use Rattle.journal_disk.specs.declared.frames.Version.TheVariants.{First, Second}
 use Rattle.journal_disk.specs.Frames.{Frame, Old, New, IsPayload, IsFrame, IsRight, AreRight, digest_of, payload_of, version_of, frame_in, frame_size}
-use Rattle.journal_disk.proofs.Whole.{length-digest_of}
+use Rattle.journal_disk.proofs.ForCallers.{length-digest_of}
 use Rattle.frame_journal.specs.Records.{Entry, entry_frame, entries_of, last_alone, spelled_size, values}
 use Rattle.frame_journal.specs.Journal.{EndsWith}
 use Rattle.frame_journal.proofs.Sizes.{right_last}
 use Rattle.std.proofs.lemmas.List.{length-append}
 use Rattle.std.proofs.lemmas.Option.{same_Some}
-use Rattle.byte_numbers.proofs.Numbers.{length-number}
+use Rattle.byte_numbers.proofs.ForCallers.{length-number}
 use Rattle.byte_numbers.specs.Numbers.{number}
 
 pub payload_in_frame : (version : Version) (payload : List ℕ) → payload_of (frame_in version payload) ≡ payload

@@ -3,7 +3,7 @@ use Rattle.std.proofs.Common.{◌≡◌, ℕ, Bool, true, false, List, Result, E
 use Rattle.journal_disk.specs.declared.errors.JournalErr.{JournalErr}
 use Rattle.journal_disk.specs.declared.errors.JournalErr.TheVariants as Why
 use Rattle.journal_disk.specs.Frames.{Frame, AreWhole, IsDamagedBehind, IsFront}
-use Rattle.journal_disk.proofs.Whole.{no_other, one_place, one_reading}
+use Rattle.journal_disk.proofs.ForCallers.{no_other, one_place, one_reading}
 use Rattle.frame_journal.specs.Records.{LoadFails, StopsAt}
 
 pub same_whole : (bytes : List ℕ) (front found : List Frame) (is_damaged : Bool) → IsFront bytes front is_damaged → AreWhole bytes found → (front ≡ found) × (is_damaged ≡ false)

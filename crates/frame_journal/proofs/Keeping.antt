@@ -4,8 +4,7 @@ use Rattle.std.proofs.lemmas.Bool.{ltb-false}
 use Rattle.std.proofs.lemmas.List.{append-nil, length-append, length-take-le, take_all, take_at, drop_at, nil_from_length, map_push}
 use Rattle.journal_disk.specs.Disk.{Image, Seen, appended, cut_to, trimmed_to, stopped, kept_bytes, synced_bytes, AppendsSome, CutsOrNot}
 use Rattle.journal_disk.specs.Frames.{Frame, Old, IsFrame, IsRight, AreRight, frame_bytes, frame_size, frames, frames_size, IsPartOfFrame, AreWhole, whole_within}
-use Rattle.journal_disk.proofs.Scan.{right_push}
-use Rattle.journal_disk.proofs.Whole.{cut_frame, whole_left}
+use Rattle.journal_disk.proofs.ForCallers.{cut_frame, right_push, whole_left}
 use Rattle.frame_journal.proofs.Sizes.{right_last, split_last, spelled_append, spelled_push}
 use Rattle.frame_journal.specs.Journal.{IsKeptOn, new_journal}
 use Rattle.frame_journal.proofs.Within.{map-within}

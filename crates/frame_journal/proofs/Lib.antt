@@ -1,10 +1,11 @@
-pub mod Sizes
-pub mod Entries
-pub mod ReadOn
-pub mod Within
-pub mod Keeping
-pub mod Apart
-pub mod Noting
-pub mod Popped
-pub mod Fronts
-pub mod Trimmed
+pub mod ForCallers
+mod Sizes
+mod Entries
+mod ReadOn
+mod Within
+mod Keeping
+mod Apart
+mod Noting
+mod Popped
+mod Fronts
+mod Trimmed

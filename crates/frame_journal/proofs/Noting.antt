@@ -6,7 +6,7 @@ use Rattle.journal_disk.specs.Disk.{Seen, appended, AppendsSome}
 use Rattle.journal_disk.specs.Frames.{IsPayload, frame}
 use Rattle.journal_disk.specs.declared.frames.Version.{Version}
 use Rattle.journal_disk.specs.declared.frames.Version.TheVariants.{Second}
-use Rattle.journal_disk.proofs.Whole.{written_is_frame}
+use Rattle.journal_disk.proofs.ForCallers.{written_is_frame}
 use Rattle.frame_journal.specs.Records.{as_written, entry_frame, entries_of, spelled_size}
 use Rattle.frame_journal.specs.Journal.{Kept, IsKeptOn, HasRoom, with_entry, with_room_used, written_size}
 use Rattle.frame_journal.proofs.Entries.{entries_push}

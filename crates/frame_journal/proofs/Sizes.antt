@@ -3,7 +3,7 @@ use Rattle.std.proofs.Common.{◌≡◌, ℕ, ◌<◌, length, append_assoc, ◌
 use Rattle.std.specs.List.{AllByRecursion}
 use Rattle.std.proofs.lemmas.List.{map_push}
 use Rattle.journal_disk.specs.Frames.{Frame, AreRight, frame_bytes, frame_size, frames, frames_size}
-use Rattle.journal_disk.proofs.Scan.{frames_push, frames_size_push}
+use Rattle.journal_disk.proofs.ForCallers.{frames_push, frames_size_push}
 use Rattle.frame_journal.specs.Records.{spelled, spelled_size, last_alone, before_last}
 
 pub all_last : {A : Type 0} (P : A → Type 0) (xs : List A) (x : A) → AllByRecursion P (xs ++ x ∷ []) → AllByRecursion P xs × P x

@@ -8,8 +8,7 @@ use Rattle.mdb_base.specs.declared.replies.Reply.{Reply}
 use Rattle.mdb_base.specs.declared.replies.Reply.TheVariants as Reply_is
 use Rattle.mdb_base.specs.Names.{same_site}
 use Rattle.mdb_base.specs.Words.{Each, found, those, how_many, some_of, with_some}
-use Rattle.mdb_base.proofs.NameLaws.{same_tid-refl, tests_agree}
-use Rattle.mdb_base.proofs.BoolLaws.{or_true, or_false}
+use Rattle.mdb_base.proofs.ForCallers.{or_false, or_true, same_tid-refl, tests_agree}
 use Rattle.presumptions.specs.declared.Participant.{Participant}
 use Rattle.fed_rules.specs.declared.messages.FromSite.TheVariants as From
 use Rattle.fed_rules.specs.declared.events.CoordEvent.TheVariants as Ev

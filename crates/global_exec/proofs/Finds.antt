@@ -1,7 +1,7 @@
 -- What a look-up finds: one item more, and another item in the place of the only one that passes a test.
 use Rattle.std.proofs.Common.{◌≡◌, ℕ, zero, suc, ◌+◌, ◌<◌, Bool, true, false, cond, Option, Some, None, option_to_list, List, [], ◌∷◌, ◌++◌, length, get_or, take, refl, sym, ap, ap₂, ◌∙◌, arith, add-one}
 use Rattle.mdb_base.specs.Words.{Each, found, with_some}
-use Rattle.mdb_base.proofs.ListLaws.{each_map}
+use Rattle.mdb_base.proofs.ForCallers.{each_map}
 use Rattle.global_exec.specs.Firsts.{replaced}
 use Rattle.global_exec.specs.Pasts.{IsOnly}
 

@@ -4,7 +4,7 @@ use Rattle.std.specs.Prelude.{reverse}
 use Rattle.std.proofs.lemmas.List.{map-append, reverse-append}
 use Rattle.std.specs.List.{remove}
 use Rattle.mdb_base.specs.Words.{Each, first_where, map_some}
-use Rattle.mdb_base.proofs.PlaceLaws.{take_none}
+use Rattle.mdb_base.proofs.ForCallers.{take_none}
 use Rattle.global_exec.specs.Firsts.{place_where, replaced, taken_out}
 
 module _ {A : Type 0} (test : A → Bool) where

@@ -1,17 +1,18 @@
-pub mod Agrees
-pub mod DueSites
-pub mod Finds
-pub mod Firsts
-pub mod Rises
-pub mod SetBits
-pub mod SetLists
-pub mod Steps
-pub mod Keeps
-pub mod Lives
-pub mod Named
-pub mod Written
-pub mod LastReads
-pub mod NewsLeft
-pub mod ExecPasts
-pub mod CountPasts
-pub mod NewsPasts
+pub mod ForCallers
+mod Agrees
+mod DueSites
+mod Finds
+mod Firsts
+mod Rises
+mod SetBits
+mod SetLists
+mod Steps
+mod Keeps
+mod Lives
+mod Named
+mod Written
+mod LastReads
+mod NewsLeft
+mod ExecPasts
+mod CountPasts
+mod NewsPasts

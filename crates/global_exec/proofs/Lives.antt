@@ -9,8 +9,7 @@ use Rattle.mdb_base.specs.declared.replies.Reply.TheVariants as Reply_is
 use Rattle.mdb_base.specs.Programs.{IsProgram, is_get, reads_of}
 use Rattle.mdb_base.specs.Words.{Each, first_where, found, holds_of, with_some}
 use Rattle.std.proofs.lemmas.List.{length-take}
-use Rattle.mdb_base.proofs.ListLaws.{each_map}
-use Rattle.mdb_base.proofs.TestLaws.{how_many_at_most}
+use Rattle.mdb_base.proofs.ForCallers.{each_map, how_many_at_most}
 use Rattle.fed_rules.specs.CoordPast.{visits}
 use Rattle.global_exec.specs.declared.progress.Progress.{Progress}
 use Rattle.global_exec.specs.Counted.{HasRoom, advanced, answered, counts, counts_at, is_answer, knows, steps_of, value_of, waited, with_epoch}

@@ -10,12 +10,7 @@ use Rattle.mdb_base.specs.declared.replies.Reply.TheVariants as Reply_is
 use Rattle.mdb_base.specs.Names.{same_site}
 use Rattle.mdb_base.specs.Programs.{next_of}
 use Rattle.mdb_base.specs.Words.{found, holds_of, item_at, some_of}
-use Rattle.mdb_base.proofs.BoolLaws.{or_fails}
-use Rattle.mdb_base.proofs.NameLaws.{same_site-equal, same_site-sym}
-use Rattle.mdb_base.proofs.OptionLaws.{some_parts}
-use Rattle.mdb_base.proofs.PlaceLaws.{drop_before, item_at-below}
-use Rattle.mdb_base.proofs.TestLaws.{first_passes}
-use Rattle.mdb_base.proofs.Words.{item_at-within}
+use Rattle.mdb_base.proofs.ForCallers.{drop_before, first_passes, item_at-below, item_at-within, or_fails, same_site-equal, same_site-sym, some_parts}
 use Rattle.fed_rules.specs.declared.messages.Due.{Due}
 use Rattle.fed_rules.specs.declared.messages.Due.TheVariants as Due_is
 use Rattle.fed_rules.specs.CoordPast.{is_ticket, visits}

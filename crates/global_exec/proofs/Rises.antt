@@ -2,9 +2,7 @@
 use Rattle.std.proofs.Common.{◌≡◌, ℕ, ◌<◌, ◌==◌, Bool, true, false, cond, Option, Some, None, List, [], ◌∷◌, map, refl, sym, ap, subst, arith, eqb-true}
 use Rattle.mdb_base.specs.Rising.{IsRising}
 use Rattle.mdb_base.specs.Words.{Each, found, with_some}
-use Rattle.mdb_base.proofs.ListLaws.{each_map}
-use Rattle.mdb_base.proofs.NumberLaws.{not_same_after}
-use Rattle.mdb_base.proofs.RisingLaws.{rising_rest}
+use Rattle.mdb_base.proofs.ForCallers.{each_map, not_same_after, rising_rest}
 use Rattle.global_exec.specs.Firsts.{replaced}
 use Rattle.global_exec.specs.Pasts.{IsOnly}
 

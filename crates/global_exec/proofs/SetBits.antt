@@ -4,7 +4,7 @@ use Rattle.std.specs.Prelude.{◌^◌}
 use Rattle.std.specs.Int.{bit_at}
 use Rattle.std.specs.Int.RustNames.{bit_or}
 use Rattle.std.proofs.lemmas.Nat.Bits.{bit_at_or, bit_at-pow_same, bit_at-pow_other, bit_at-lt}
-use Rattle.mdb_base.proofs.BoolLaws.{or_true, or_false}
+use Rattle.mdb_base.proofs.ForCallers.{or_false, or_true}
 
 small_power : (s : ℕ) → 1 ≤ s → s ≤ 8 → 1 * 2 ^ (s - 1) % 256 ≡ 2 ^ (s - 1)
 small_power zero a b = absurd (omega arith)

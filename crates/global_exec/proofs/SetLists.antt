@@ -4,8 +4,7 @@ use Rattle.mdb_base.specs.declared.names.SiteId.{SiteId}
 use Rattle.mdb_base.specs.Names.{same_site}
 use Rattle.mdb_base.specs.Rising.{IsRising}
 use Rattle.mdb_base.specs.Words.{Each, those, some_of}
-use Rattle.mdb_base.proofs.RisingLaws.{rising_rest}
-use Rattle.mdb_base.proofs.NameLaws.{same_site-below}
+use Rattle.mdb_base.proofs.ForCallers.{rising_rest, same_site-below}
 use Rattle.global_exec.specs.declared.policy.SiteSet.{SiteSet}
 use Rattle.global_exec.specs.Live.{all_sites}
 use Rattle.global_exec.specs.Sets.{IsSite, has_site, sites_in}

@@ -6,7 +6,7 @@ use Rattle.mdb_base.specs.declared.names.Tid.{Tid}
 use Rattle.mdb_base.specs.declared.names.Tx.{Tx}
 use Rattle.mdb_base.specs.Names.{same_tid}
 use Rattle.mdb_base.specs.Words.{given, some_of, when}
-use Rattle.mdb_base.proofs.NameLaws.{same_tid-equal, same_tid-refl, tests_agree}
+use Rattle.mdb_base.proofs.ForCallers.{same_tid-equal, same_tid-refl, tests_agree}
 use Rattle.presumptions.specs.declared.Participant.{Participant}
 use Rattle.order_laws.specs.Chains.{In}
 use Rattle.fed_rules.specs.declared.answers.Answer.TheVariants as Say
@@ -22,10 +22,10 @@ use Rattle.fed_rules.specs.Happenings.{is_down}
 use Rattle.fed_rules.specs.Policies.{Policy}
 use Rattle.fed_rules.specs.Requests.{Submits, Declines, attempt, unless_begun}
 use Rattle.coord_laws.specs.Pasts.{IsGoingOn}
-use Rattle.coord_laws.proofs.Past.{begin_in_order}
+use Rattle.coord_laws.proofs.ForCallers.{begin_in_order}
 use Rattle.actor_store.specs.Store.{Passes}
 use Rattle.coord_tables.specs.Terms.{Terms, line_of}
-use Rattle.coord_core.proofs.Endings.{passes_is, usual_line}
+use Rattle.coord_core.proofs.ForCallers.{passes_is, usual_line}
 
 module _ (protocols : List Participant) (policy : Policy) (program : Option (List Step)) (past : CoordPast) (tx : Tx) where
   -- one that is no global transaction

@@ -13,7 +13,7 @@ use Rattle.journal_disk.specs.Disk.{Seen}
 use Rattle.actor_store.specs.declared.errors.StepErr.{StepErr}
 use Rattle.actor_store.specs.declared.errors.StepErr.TheVariants as Err_is
 use Rattle.actor_store.specs.Store.{Passes}
-use Rattle.actor_store.proofs.EndsLaws.{passes_none}
+use Rattle.actor_store.proofs.ForCallers.{passes_none}
 use Rattle.coord_core.specs.declared.coord.CoordCore.{CoordCore}
 use Rattle.coord_core.specs.Stands.{Fails as CoreFails, Holds, Steps, StopsBefore as CoreBefore, StopsWithin as CoreWithin}
 use Rattle.coord_tables.specs.Terms.{Terms, line_of}

@@ -1,5 +1,6 @@
-pub mod Asked
-pub mod Asks
-pub mod Fit
-pub mod Lines
-pub mod Owned
+pub mod ForCallers
+mod Asked
+mod Asks
+mod Fit
+mod Lines
+mod Owned

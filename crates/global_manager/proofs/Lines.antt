@@ -8,8 +8,8 @@ use Rattle.mdb_base.specs.Names.{same_tx, tx_cmp}
 use Rattle.mdb_base.specs.Words.{Each, first_where}
 use Rattle.presumptions.specs.declared.Participant.{Participant}
 use Rattle.fed_rules.specs.declared.scenario.TxLine.{TxLine}
-use Rattle.mdb_base.proofs.NameOrders.{tx_ties, txs_total, txs_exact}
-use Rattle.site_book.proofs.Maps.{get-gone, get-put}
+use Rattle.mdb_base.proofs.ForCallers.{tx_ties, txs_exact, txs_total}
+use Rattle.site_book.proofs.ForCallers.{get-gone, get-put}
 use Rattle.global_manager.specs.Stands.{IsDeclared, IsSited, IsSitedFrom, noted, own_programs, program_at}
 
 -- what is found behind a line that is noted

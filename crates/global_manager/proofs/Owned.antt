@@ -10,10 +10,10 @@ use Rattle.fed_rules.specs.CoordPast.{CoordHappening, CoordPast, disk}
 use Rattle.fed_rules.specs.CoordRecords.{coord_frame}
 use Rattle.fed_rules.specs.Disk.{Stops}
 use Rattle.fed_rules.specs.Happenings.{is_down, quiet, stopped, stops}
-use Rattle.coord_laws.proofs.MadeLines.{coord_made}
+use Rattle.coord_laws.proofs.ForCallers.{coord_made}
 use Rattle.coord_core.specs.Stands.{stopped_before, stopped_within, with_trip}
 use Rattle.coord_tables.specs.Terms.{Terms, line_of}
-use Rattle.coord_core.proofs.Endings.{trip_line}
+use Rattle.coord_core.proofs.ForCallers.{trip_line}
 use Rattle.global_manager.specs.Stands.{FitsPrograms, IsOwned, OwnPrograms}
 
 -- a past goes on with the line of an event that fits

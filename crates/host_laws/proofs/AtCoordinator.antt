@@ -6,13 +6,12 @@ use Rattle.mdb_base.specs.declared.acts.Step.{Step}
 use Rattle.mdb_base.specs.declared.names.SiteId.{SiteId}
 use Rattle.mdb_base.specs.declared.names.Tx.{Tx}
 use Rattle.mdb_base.specs.Words.{Each, item_at, map_some}
-use Rattle.mdb_base.proofs.OptionLaws.{some_parts, given_some, given_none}
+use Rattle.mdb_base.proofs.ForCallers.{given_none, given_some, some_parts, those_rise}
 use Rattle.order_laws.specs.Chains.{In}
-use Rattle.order_laws.proofs.Lists.{each_at, each_from}
+use Rattle.order_laws.proofs.ForCallers.{each_at, each_from, slice_get-in}
 use Rattle.presumptions.specs.declared.Participant.{Participant}
-use Rattle.order_laws.proofs.InLaws.{slice_get-in}
-use Rattle.commit_laws.proofs.Links.{IsNext, linked, story_made}
-use Rattle.coord_laws.proofs.Past.{records_name, going_on}
+use Rattle.commit_laws.proofs.ForCallers.{IsNext, linked, members_rise, story_made}
+use Rattle.coord_laws.proofs.ForCallers.{going_on, records_name}
 use Rattle.fed_rules.specs.declared.answers.Answer.{Answer}
 use Rattle.fed_rules.specs.declared.commands.Command.{Command}
 use Rattle.fed_rules.specs.declared.commands.Command.TheVariants as Cmd
@@ -33,15 +32,12 @@ use Rattle.fed_rules.specs.SiteCommands as Rule
 use Rattle.fed_rules.specs.SiteCommands.{Verb, request}
 use Rattle.fed_rules.specs.SitePast.{SitePast}
 use Rattle.fed_rules.specs.Story.{Story, Happened, AtCoordinator, at_coordinator, coord_past, coord_requested, happens, on_actor, on_attempt, on_fate, on_go, on_local, on_take, places_of, sends_from, sends_to, sent_from, sent_to, story_of, with_coordinator, with_site}
-use Rattle.mdb_base.proofs.RisingLaws.{those_rise}
-use Rattle.world_laws.proofs.Members.{SendsAmong, sites_in}
-use Rattle.world_laws.proofs.Sent.{coordinator_sends}
+use Rattle.world_laws.proofs.ForCallers.{SendsAmong, coordinator_sends, sites_in}
 use Rattle.fed_rules.specs.Terms.{Terms, line_of}
 use Rattle.fed_rules.specs.Site_of.{message_to}
 use Rattle.coord_tables.specs.Terms.{Terms, line_of}
 use Rattle.fed_messages.specs.declared.Envelope.{Envelope}
-use Rattle.rules_laws.proofs.Scenarios.{MembersRise}
-use Rattle.commit_laws.proofs.Declared.{members_rise}
+use Rattle.rules_laws.proofs.ForCallers.{MembersRise}
 use Rattle.host_laws.specs.CoordHistory.{IsCoordCommand}
 use Rattle.host_laws.specs.CoordPlans.{CoordPlan}
 use Rattle.host_laws.specs.CoordTurns.{CoordTurn, MayAnswer, coord_behind, coord_request, coord_sends, coord_trips_of, places_sent, taken_from, sent_to as sent_by_coordinator}

@@ -6,10 +6,8 @@ use Rattle.mdb_base.specs.declared.names.SiteId.{SiteId}
 use Rattle.mdb_base.specs.declared.names.Tx.{Tx}
 use Rattle.mdb_base.specs.Names.{same_site}
 use Rattle.mdb_base.specs.Words.{Each, item_at}
-use Rattle.mdb_base.proofs.Words.{cond-true, cond-false}
-use Rattle.mdb_base.proofs.OptionLaws.{some_parts, given_some}
-use Rattle.mdb_base.proofs.NameLaws.{same_site-equal, same_site-refl}
-use Rattle.order_laws.proofs.Lists.{each_at}
+use Rattle.mdb_base.proofs.ForCallers.{cond-false, cond-true, given_some, same_site-equal, same_site-refl, some_parts}
+use Rattle.order_laws.proofs.ForCallers.{each_at, slice_get-in}
 use Rattle.fed_rules.specs.declared.answers.Answer.TheVariants as Say
 use Rattle.fed_rules.specs.declared.commands.Command.{Command}
 use Rattle.fed_rules.specs.declared.commands.Command.TheVariants as Cmd
@@ -31,7 +29,6 @@ use Rattle.fed_rules.specs.SiteRecords.{Home}
 use Rattle.fed_rules.specs.Story.{Story, Happened, Nowhere, at_site, happens, on_actor, on_fate, on_give, on_local, on_site, past_of, place_from, places_of, requested, sends_from, sends_to, sent_from, sent_to, with_coordinator, with_site}
 use Rattle.fed_rules.specs.OwnPrograms.{own_programs, program_at}
 use Rattle.presumptions.specs.declared.Participant.{Participant}
-use Rattle.order_laws.proofs.InLaws.{slice_get-in}
 use Rattle.fed_messages.specs.declared.Envelope.{Envelope}
 use Rattle.host_laws.specs.History.{IsCommand}
 use Rattle.host_laws.specs.Plans.{SitePlan}

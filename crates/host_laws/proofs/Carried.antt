@@ -8,14 +8,11 @@ use Rattle.mdb_base.specs.declared.names.SiteId.{SiteId}
 use Rattle.mdb_base.specs.declared.names.Tx.{Tx}
 use Rattle.mdb_base.specs.Names.{same_site}
 use Rattle.mdb_base.specs.Words.{Each, found, some_of}
-use Rattle.mdb_base.proofs.ListLaws.{each_all, each_map, each_of_map}
-use Rattle.mdb_base.proofs.EachLaws.{each_of_mapped}
+use Rattle.mdb_base.proofs.ForCallers.{each_all, each_map, each_of_map, each_of_mapped}
 use Rattle.order_laws.specs.Chains.{In}
-use Rattle.order_laws.proofs.Lists.{each_at}
-use Rattle.order_laws.proofs.Reversed.{map_reverse}
+use Rattle.order_laws.proofs.ForCallers.{each_at, each_reverse as reverse_each, map_reverse}
 use Rattle.presumptions.specs.declared.Participant.{Participant}
-use Rattle.order_laws.proofs.InLaws.{each_reverse as reverse_each}
-use Rattle.rules_laws.proofs.Declared.{home-again, its-site}
+use Rattle.rules_laws.proofs.ForCallers.{home-again, its-site}
 use Rattle.fed_rules.specs.declared.commands.Line.{Line}
 use Rattle.fed_rules.specs.declared.commands.Stamped.{Stamped}
 use Rattle.fed_rules.specs.declared.messages.FromSite.{FromSite}
@@ -34,7 +31,7 @@ use Rattle.fed_messages.specs.Spelling.{IsFromSite, from_site_bytes, to_site_byt
 use Rattle.scripted_link.specs.Script.{let_through}
 use Rattle.fed_rules.specs.Site_of.{about}
 use Rattle.trace_merge.specs.Traces.{Entry, IsTrace, list_of, lines_of}
-use Rattle.world_laws.proofs.Sent.{messages_of_begun}
+use Rattle.world_laws.proofs.ForCallers.{messages_of_begun}
 use Rattle.world_laws.specs.Messages.{IsBegunGlobal}
 use Rattle.host_laws.specs.CoordHearing.{HasHeardFrom, TakingFrom, IsReadFrom}
 use Rattle.host_laws.specs.CoordPlans.{CoordPlan}

@@ -3,15 +3,15 @@ use Rattle.std.proofs.Common.{◌≡◌, ℕ, suc, ◌+◌, ◌<◌, ◌≤◌, 
 use Rattle.std.proofs.lemmas.List.{append-nil, length-append, length-map, map-append}
 use mathlib.Core.List.{IsPrefix}
 use Rattle.mdb_base.specs.Words.{Each, Among, found, with_some}
-use Rattle.mdb_base.proofs.ListLaws.{append_each, each_append, each_map, each_of_map}
+use Rattle.mdb_base.proofs.ForCallers.{append_each, each_append, each_map, each_of_map}
 use Rattle.order_laws.specs.Chains.{In}
-use Rattle.order_laws.proofs.Lists.{each_at, each_from}
+use Rattle.order_laws.proofs.ForCallers.{each_at, each_from}
 use Rattle.fed_messages.specs.declared.Envelope.{Envelope}
 use Rattle.fed_messages.specs.declared.Packet.{Packet}
 use Rattle.fed_messages.specs.Packets.{Spells, envelope_bytes, packet_of}
 use Rattle.scripted_link.specs.declared.script.FateAt.{FateAt}
 use Rattle.scripted_link.specs.Script.{let_through}
-use Rattle.scripted_link.proofs.Scripts.{see_places_alone, were_offered}
+use Rattle.scripted_link.proofs.ForCallers.{see_places_alone, were_offered}
 use Rattle.host_laws.specs.Merged.{IsCarried, first_places}
 use Rattle.host_laws.proofs.CarriedLists.{each_both, each_reverse, found_each}
 use Rattle.host_laws.proofs.CarriedPackets.{index_in, index_spelled, spells_text, stamp_in, stamp_spelled}

@@ -4,7 +4,7 @@ use Rattle.std.proofs.lemmas.Bool.{leb-true, and_parts}
 use Rattle.mdb_base.specs.declared.names.SiteId.{SiteId}
 use Rattle.mdb_base.specs.Names.{same_site}
 use Rattle.mdb_base.specs.Words.{each_of}
-use Rattle.mdb_base.proofs.NameLaws.{same_site-equal}
+use Rattle.mdb_base.proofs.ForCallers.{same_site-equal}
 use Rattle.order_laws.specs.Chains.{In}
 use Rattle.fed_rules.specs.declared.commands.Stamped.{Stamped}
 use Rattle.fed_rules.specs.declared.scenario.ItemLine.{ItemLine}
@@ -15,7 +15,7 @@ use Rattle.fed_rules.specs.Scenarios.{home_in, home_of, items_of, sites}
 use Rattle.fed_rules.specs.SiteRecords.{Home}
 use Rattle.fed_messages.specs.declared.Packet.{Packet}
 use Rattle.trace_merge.specs.Traces.{list_of}
-use Rattle.world_laws.proofs.Sent.{homed}
+use Rattle.world_laws.proofs.ForCallers.{homed}
 use Rattle.host_laws.specs.CoordTurns.{CoordTurn}
 use Rattle.host_laws.specs.Logs.{AreLists, AreLogs, CoordLog, Scripts, SiteLog}
 use Rattle.host_laws.specs.Turns.{SiteTurn}

@@ -2,8 +2,7 @@
 use Rattle.std.proofs.Common.{◌≡◌, Option, Some, None, List, [], ◌∷◌, ◌++◌, map, reverse, refl, sym, ap, ◌∙◌, subst}
 use Rattle.std.proofs.lemmas.List.{append-nil}
 use Rattle.mdb_base.specs.Words.{Each, found, map_some, with_some}
-use Rattle.mdb_base.proofs.ListLaws.{each_append}
-use Rattle.mdb_base.proofs.JoinLaws.{reverse_more, found_append}
+use Rattle.mdb_base.proofs.ForCallers.{each_append, found_append, reverse_more}
 
 pub each_reverse : {A : Type 0} (P : A → Type 0) (xs : List A) → Each P (reverse xs) → Each P xs
 each_reverse P [] h = tt

@@ -2,7 +2,7 @@
 use Rattle.std.proofs.Common.{◌≡◌, ℕ, ◌^◌, ◌<◌, Option, Some, None, List, ◌++◌, length, drop, replicate, ◌-◌, refl, sym, ap, ◌∙◌, arith}
 use Rattle.std.proofs.lemmas.List.{append_assoc, drop_at, take_at, take-append-drop}
 use Rattle.byte_numbers.specs.Numbers.{number, number_at}
-use Rattle.byte_numbers.proofs.Numbers.{length-number, number_again}
+use Rattle.byte_numbers.proofs.ForCallers.{length-number, number_again}
 use Rattle.fed_messages.specs.declared.Envelope.{Envelope}
 use Rattle.fed_messages.specs.declared.Packet.{Packet}
 use Rattle.fed_messages.specs.Packets.{Spells, envelope_bytes, packet_of}

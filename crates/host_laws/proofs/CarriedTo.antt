@@ -5,8 +5,7 @@ use Rattle.mdb_base.specs.declared.names.SiteId.{SiteId}
 use Rattle.mdb_base.specs.declared.names.Tx.{Tx}
 use Rattle.mdb_base.specs.Names.{same_site, same_tx}
 use Rattle.mdb_base.specs.Words.{Each, first_where, map_some}
-use Rattle.mdb_base.proofs.NameLaws.{same_site-refl}
-use Rattle.mdb_base.proofs.JoinLaws.{length-option}
+use Rattle.mdb_base.proofs.ForCallers.{length-option, same_site-refl}
 use Rattle.fed_rules.specs.declared.answers.Answer.{Answer}
 use Rattle.fed_rules.specs.declared.commands.Command.{Command}
 use Rattle.fed_rules.specs.declared.commands.Command.TheVariants as Cmd

@@ -2,9 +2,8 @@
 use Rattle.std.proofs.Common.{◌≡◌, ℕ, zero, suc, ◌+◌, ◌*◌, ◌<◌, ◌≤◌, ◌⊎◌, cond, nat_eq, true, false, Option, None, List, [], ◌∷◌, length, refl, sym, ap, ◌∙◌, subst, inl, inr, arith}
 use Rattle.std.proofs.lemmas.Bool.Decides.{eqb_tells}
 use Rattle.mdb_base.specs.Words.{Each, Among, found, with_some}
-use Rattle.mdb_base.proofs.ListLaws.{each_map, each_self}
-use Rattle.mdb_base.proofs.Words.{cond-true, cond-false}
-use Rattle.order_laws.proofs.Lists.{among_weaker}
+use Rattle.mdb_base.proofs.ForCallers.{cond-false, cond-true, each_map, each_self}
+use Rattle.order_laws.proofs.ForCallers.{among_weaker}
 use Rattle.fed_rules.specs.declared.commands.Line.{Line}
 use Rattle.fed_rules.specs.declared.commands.Stamped.{Stamped}
 use Rattle.trace_merge.specs.Traces.{Entry, ComesBefore, IsOrdered, lines_of}

@@ -4,7 +4,7 @@ use Rattle.std.proofs.Common.{◌≡◌, ℕ, ◌<◌, ◌≤◌, ◌⊎◌, inl
 use Rattle.std.proofs.lemmas.List.{append-nil, length-append}
 use Rattle.mdb_base.specs.Words.{item_at}
 use Rattle.order_laws.specs.Chains.{In}
-use Rattle.order_laws.proofs.Reversed.{in_reverse}
+use Rattle.order_laws.proofs.ForCallers.{in_reverse}
 use Rattle.host_laws.proofs.Standing.{item_behind, stands}
 
 module _ {T M P : Type 0} (stamp : T → ℕ) (wrap : ℕ → ℕ → M → P) (sends : List T → T → List M) (sent : List T → List M) (offered : List T → List P) where

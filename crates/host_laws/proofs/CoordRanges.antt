@@ -6,9 +6,8 @@ use Rattle.mdb_base.specs.declared.acts.Step.{Step}
 use Rattle.mdb_base.specs.declared.names.Tid.{Tid}
 use Rattle.mdb_base.specs.declared.names.Tx.{Tx}
 use Rattle.mdb_base.specs.Words.{Each, map_some, with_some}
-use Rattle.mdb_base.proofs.OptionLaws.{by_given}
-use Rattle.coord_laws.proofs.Made.{Begins}
-use Rattle.coord_laws.proofs.MadeLines.{coord_made}
+use Rattle.mdb_base.proofs.ForCallers.{by_given}
+use Rattle.coord_laws.proofs.ForCallers.{Begins, coord_made}
 use Rattle.fed_rules.specs.Terms.{Terms, line_of}
 use Rattle.coord_tables.specs.Terms.{Terms, line_of}
 use Rattle.field_bytes.specs.Fields.{IsTid}

@@ -3,19 +3,16 @@ use Rattle.std.proofs.Common.{◌≡◌, ℕ, zero, suc, ◌≤◌, ◌<◌, inl
 use Rattle.std.proofs.lemmas.Bool.{and_parts, leb-true}
 use Rattle.mdb_base.specs.declared.names.SiteId.{SiteId}
 use Rattle.mdb_base.specs.Words.{Each, each_of}
-use Rattle.mdb_base.proofs.ListLaws.{each_inserted}
-use Rattle.mdb_base.proofs.EachLaws.{each_of_mapped}
-use Rattle.mdb_base.proofs.RisingLaws.{one_place}
+use Rattle.mdb_base.proofs.ForCallers.{each_inserted, each_of_mapped, one_place}
 use Rattle.presumptions.specs.declared.Participant.{Participant}
 use Rattle.order_laws.specs.Chains.{In}
-use Rattle.order_laws.proofs.Lists.{each_at}
-use Rattle.order_laws.proofs.InLaws.{slice_get-in}
-use Rattle.rules_laws.proofs.SendsRise.{sites_rise}
+use Rattle.order_laws.proofs.ForCallers.{each_at, slice_get-in}
+use Rattle.rules_laws.proofs.ForCallers.{sites_rise}
 use Rattle.fed_rules.specs.declared.scenario.Scenario.{Scenario}
 use Rattle.fed_rules.specs.declared.scenario.SiteLine.{SiteLine}
 use Rattle.fed_rules.specs.Plans.{IsScenario, is_between}
 use Rattle.fed_rules.specs.Scenarios.{protocols, protocols_in, sites}
-use Rattle.commit_laws.proofs.Declared.{by_site, members_rise}
+use Rattle.commit_laws.proofs.ForCallers.{by_site, members_rise}
 
 -- ---- their order
 

@@ -1,28 +1,29 @@
-pub mod Standing
-pub mod Channels
-pub mod SendsRise
-pub mod SentPlaces
-pub mod DeclaredSites
-pub mod AtSite
-pub mod AtCoordinator
-pub mod Rings
-pub mod Spelled
-pub mod CoordMoves
-pub mod SiteMoves
-pub mod Sides
-pub mod Stamps
-pub mod Taken
-pub mod Stories
-pub mod CarriedPackets
-pub mod CarriedLists
-pub mod CarriedClocks
-pub mod CarriedTrace
-pub mod CarriedChannels
-pub mod CarriedTo
-pub mod CarriedFrom
-pub mod CarriedHosts
-pub mod SiteNames
-pub mod SiteRanges
-pub mod CoordRanges
-pub mod Carried
-pub mod StopsArmed
+pub mod ForCallers
+mod Standing
+mod Channels
+mod SendsRise
+mod SentPlaces
+mod DeclaredSites
+mod AtSite
+mod AtCoordinator
+mod Rings
+mod Spelled
+mod CoordMoves
+mod SiteMoves
+mod Sides
+mod Stamps
+mod Taken
+mod Stories
+mod CarriedPackets
+mod CarriedLists
+mod CarriedClocks
+mod CarriedTrace
+mod CarriedChannels
+mod CarriedTo
+mod CarriedFrom
+mod CarriedHosts
+mod SiteNames
+mod SiteRanges
+mod CoordRanges
+mod Carried
+mod StopsArmed

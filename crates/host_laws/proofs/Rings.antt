@@ -3,18 +3,15 @@ use Rattle.std.proofs.Common.{◌≡◌, ℕ, ◌<◌, ◌≤◌, ◌^◌, inl, 
 use Rattle.std.specs.Prelude.{replicate, ◌-◌}
 use Rattle.std.proofs.lemmas.List.{reverse-reverse, take_at}
 use Rattle.mdb_base.specs.Words.{Each, found, item_at}
-use Rattle.mdb_base.proofs.PlaceLaws.{item_at-below}
+use Rattle.mdb_base.proofs.ForCallers.{item_at-below}
 use Rattle.order_laws.specs.Chains.{In}
-use Rattle.order_laws.proofs.Lists.{each_at}
-use Rattle.order_laws.proofs.Reversed.{in_reverse}
-use Rattle.order_laws.proofs.InLaws.{item_at-in, in_map}
-use Rattle.order_laws.proofs.Joined.{in_more}
+use Rattle.order_laws.proofs.ForCallers.{each_at, in_map, in_more, in_reverse, item_at-in}
 use Rattle.fed_messages.specs.declared.Envelope.{Envelope}
 use Rattle.fed_messages.specs.declared.Packet.{Packet}
 use Rattle.scripted_link.specs.declared.script.FateAt.{FateAt}
 use Rattle.fed_messages.specs.Packets.{IsEnvelope, Spells, envelope_bytes, packet_of}
 use Rattle.host_laws.specs.Logs.{IsDelivered}
-use Rattle.scripted_link.proofs.Scripts.{were_offered}
+use Rattle.scripted_link.proofs.ForCallers.{were_offered}
 use Rattle.host_laws.proofs.Channels.{IsChannel, arrives, few_sent, numbered, sender}
 use Rattle.host_laws.proofs.Standing.{found_of}
 

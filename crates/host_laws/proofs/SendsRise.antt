@@ -36,13 +36,11 @@ use Rattle.fed_rules.specs.CoordPast.{CoordHappening, CoordPast, Standing, Undec
 use Rattle.fed_rules.specs.CoordRecords.{commits, committed_of, named, required_of, coord_frame, is_nobody, coord_payload}
 use Rattle.fed_rules.specs.Policies.{Policy}
 use Rattle.fed_rules.specs.Site_of.{due_site}
-use Rattle.mdb_base.proofs.RisingLaws.{those_rise}
-use Rattle.rules_laws.proofs.SendsRise.{decisions_rise, sends_rise}
-use Rattle.global_exec.proofs.Rises.{found_rises}
-use Rattle.rules_laws.proofs.SendsRise.{decisions_rise, sends_rise}
-use Rattle.rules_laws.proofs.Scenarios.{MembersRise}
-use Rattle.coord_laws.proofs.MadeLines.{outstanding_site}
-use Rattle.coord_tables.proofs.Voting.{found_rise}
+use Rattle.mdb_base.proofs.ForCallers.{those_rise}
+use Rattle.rules_laws.proofs.ForCallers.{MembersRise, decisions_rise, sends_rise}
+use Rattle.global_exec.proofs.ForCallers.{found_rises}
+use Rattle.coord_laws.proofs.ForCallers.{outstanding_site}
+use Rattle.coord_tables.proofs.ForCallers.{found_rise}
 
 -- by rising site
 abbrev pub BySite : List Sent → Type 0

@@ -5,16 +5,14 @@ use Rattle.std.proofs.lemmas.Bool.{cond-true, cond-false, ne_eqb}
 use Rattle.mdb_base.specs.declared.names.SiteId.{SiteId}
 use Rattle.mdb_base.specs.Names.{same_site}
 use Rattle.mdb_base.specs.Words.{Each, first_where, found, map_some, those, with_some}
-use Rattle.mdb_base.proofs.NameLaws.{same_site-equal, same_site-refl}
-use Rattle.mdb_base.proofs.RisingLaws.{rising_rest}
+use Rattle.mdb_base.proofs.ForCallers.{rising_rest, same_site-equal, same_site-refl}
 use Rattle.presumptions.specs.declared.Participant.{Participant}
 use Rattle.order_laws.specs.Chains.{In}
 use Rattle.fed_rules.specs.declared.commands.Place.{Place}
 use Rattle.fed_rules.specs.declared.messages.Sent.{Sent}
 use Rattle.fed_rules.specs.declared.messages.ToSite.{ToSite}
 use Rattle.fed_rules.specs.Site_of.{message_to}
-use Rattle.rules_laws.proofs.Scenarios.{MembersRise}
-use Rattle.rules_laws.proofs.Sends.{OverSends, none_to}
+use Rattle.rules_laws.proofs.ForCallers.{MembersRise, OverSends, none_to}
 use Rattle.host_laws.proofs.SendsRise.{BySite}
 
 abbrev OverMembers : SiteId → List Participant → Type 0

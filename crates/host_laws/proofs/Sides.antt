@@ -3,12 +3,10 @@ use Rattle.std.proofs.Common.{◌≡◌, ℕ, ◌≤◌, inl, inr, Bool, true, f
 use Rattle.std.specs.Prelude.{option_to_list}
 use Rattle.mdb_base.specs.declared.names.SiteId.{SiteId}
 use Rattle.mdb_base.specs.Words.{Each, those}
-use Rattle.mdb_base.proofs.ListLaws.{each_map, those_pass}
-use Rattle.mdb_base.proofs.Words.{cond-true, cond-false}
+use Rattle.mdb_base.proofs.ForCallers.{cond-false, cond-true, each_map, length-option, those_pass}
 use Rattle.std.proofs.lemmas.Bool.{ne_eqb}
-use Rattle.mdb_base.proofs.JoinLaws.{length-option}
 use Rattle.order_laws.specs.Chains.{In}
-use Rattle.order_laws.proofs.InLaws.{in_map}
+use Rattle.order_laws.proofs.ForCallers.{in_map}
 use Rattle.fed_rules.specs.declared.commands.Line.{Line}
 use Rattle.fed_rules.specs.declared.commands.Stamped.{Stamped}
 use Rattle.fed_rules.specs.declared.events.SiteEvent.{SiteEvent}
@@ -23,7 +21,7 @@ use Rattle.fed_rules.specs.SitePast.{SitePast}
 use Rattle.fed_rules.specs.SiteRecords.{Home}
 use Rattle.fed_rules.specs.Story as Told
 use Rattle.fed_rules.specs.Story.{Story, coord_past}
-use Rattle.world_laws.proofs.SiteSays.{sites_few}
+use Rattle.world_laws.proofs.ForCallers.{sites_few}
 use Rattle.fed_rules.specs.Site_of.{message_to}
 use Rattle.trace_merge.specs.Traces.{ComesBefore, Entry, IsOrdered, lines_of}
 use Rattle.host_laws.specs.CoordHistory.{IsCoordHistory}

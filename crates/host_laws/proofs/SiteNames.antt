@@ -11,10 +11,7 @@ use Rattle.mdb_base.specs.declared.replies.Why.{Why}
 use Rattle.mdb_base.specs.declared.replies.Why.TheVariants as Because
 use Rattle.mdb_base.specs.Names.{same_tid}
 use Rattle.mdb_base.specs.Words.{Each, found, when, with_some}
-use Rattle.mdb_base.proofs.ListLaws.{append_each, each_all, each_inserted}
-use Rattle.mdb_base.proofs.NameLaws.{same_tid-equal}
-use Rattle.mdb_base.proofs.EachLaws.{each_of_mapped, each_take}
-use Rattle.mdb_base.proofs.OptionLaws.{by_given}
+use Rattle.mdb_base.proofs.ForCallers.{append_each, by_given, each_all, each_inserted, each_of_mapped, each_take, same_tid-equal}
 use Rattle.presumptions.specs.declared.Decision.{Decision}
 use Rattle.presumptions.specs.declared.Decision.TheVariants as Decided
 use Rattle.presumptions.specs.Table.{acks, forces}
@@ -38,7 +35,7 @@ use Rattle.fed_rules.specs.Site.{ack_of, answered, did, ended_calls, first_work,
 use Rattle.fed_rules.specs.SitePast.{SiteHappening, SitePast, disk, engine_lines, epoch, epoch_start, records, trip}
 use Rattle.fed_rules.specs.SiteRecords.{Held, Home, by_tid, doubt_of, doubts, held_before, kept_held, prepared_tids, site_frame, start_of}
 use Rattle.fed_rules.specs.Site_of.{about}
-use Rattle.engine_laws.proofs.StopReplies.{IfSome, OfRuns, SaysOf, access_says, ticket_says}
+use Rattle.engine_laws.proofs.ForCallers.{IfSome, OfRuns, SaysOf, access_says, ticket_says}
 use Rattle.host_laws.proofs.CarriedLists.{found_each}
 
 -- what holds of both branches holds of the one that is chosen

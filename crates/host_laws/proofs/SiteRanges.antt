@@ -13,10 +13,8 @@ use Rattle.mdb_base.specs.declared.replies.Why.{Why}
 use Rattle.mdb_base.specs.declared.replies.Why.TheVariants as Because
 use Rattle.mdb_base.specs.Names.{same_tx}
 use Rattle.mdb_base.specs.Words.{Each, first_where, found, map_some, with_some}
-use Rattle.mdb_base.proofs.ListLaws.{append_each}
-use Rattle.mdb_base.proofs.NameLaws.{same_tx-equal}
-use Rattle.mdb_base.proofs.OptionLaws.{by_given}
-use Rattle.order_laws.proofs.Lists.{each_of_at, first_where_some}
+use Rattle.mdb_base.proofs.ForCallers.{append_each, by_given, same_tx-equal}
+use Rattle.order_laws.proofs.ForCallers.{each_of_at, first_where_some}
 use Rattle.field_bytes.specs.Fields.{IsTid}
 use Rattle.fed_rules.specs.declared.commands.Command.{Command}
 use Rattle.fed_rules.specs.declared.commands.Command.TheVariants as Cmd

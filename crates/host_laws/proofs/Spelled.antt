@@ -3,10 +3,9 @@ use Rattle.std.proofs.Common.{◌≡◌, ℕ, ◌<◌, ◌^◌, List, [], ◌∷
 use Rattle.std.proofs.lemmas.List.{append_assoc, append-nil}
 use Rattle.std.proofs.lemmas.Option.{same_Some}
 use Rattle.byte_numbers.specs.Numbers.{number, number_at, ◌>>=◌}
-use Rattle.byte_numbers.proofs.Numbers.{number_again}
+use Rattle.byte_numbers.proofs.ForCallers.{number_again}
 use Rattle.field_bytes.specs.Fields.{IsTid, tid_bytes, decision_at, decision_bytes}
-use Rattle.field_bytes.proofs.Laws.{decision_again}
-use Rattle.field_bytes.proofs.Steps.{number_then}
+use Rattle.field_bytes.proofs.ForCallers.{decision_again, number_then}
 use Rattle.mdb_base.specs.declared.acts.PlainAct.{PlainAct}
 use Rattle.mdb_base.specs.declared.names.Tid.{Tid}
 use Rattle.mdb_base.specs.declared.replies.Reply.{Reply}
@@ -23,8 +22,7 @@ use Rattle.fed_messages.specs.declared.reading.Operation.{Operation}
 use Rattle.fed_messages.specs.Packets.{IsEnvelope, envelope_bytes}
 use Rattle.fed_messages.specs.Reading.{Kinds, Reading, act_at, kind_at, nothing_at, ticket_at, value_at, vote_at}
 use Rattle.fed_messages.specs.Spelling.{IsAct, IsFromSite, IsOperation, IsReply, IsToSite, IsVote, IsWhy, act_bytes, from_site_bytes, operation_bytes, reply_bytes, to_site_bytes, vote_bytes}
-use Rattle.fed_messages.proofs.ByKind.{found_then}
-use Rattle.fed_messages.proofs.Again.{kind_again, act_again, vote_again}
+use Rattle.fed_messages.proofs.ForCallers.{act_again, found_then, kind_again, vote_again}
 use Rattle.host_laws.specs.Written.{FitsFromSite, FitsOperation, FitsReply, FitsTid, FitsToSite, FitsWhy}
 
 -- ---- readings that don't test the range of an attempt

@@ -3,13 +3,10 @@ use Rattle.std.proofs.Common.{◌≡◌, inl, inr, ℕ, suc, ◌+◌, ◌<◌, �
 use Rattle.mdb_base.specs.declared.names.SiteId.{SiteId}
 use Rattle.mdb_base.specs.Names.{same_site}
 use Rattle.mdb_base.specs.Words.{Each, found, some_of}
-use Rattle.mdb_base.proofs.ListLaws.{each_map}
-use Rattle.mdb_base.proofs.Words.{cond-true}
-use Rattle.mdb_base.proofs.NameLaws.{same_site-equal, same_site-refl}
+use Rattle.mdb_base.proofs.ForCallers.{cond-true, each_map, same_site-equal, same_site-refl}
 use Rattle.order_laws.specs.Chains.{In}
-use Rattle.order_laws.proofs.Lists.{each_from, some_of_is}
+use Rattle.order_laws.proofs.ForCallers.{each_from, found_there, in_map, some_of_is}
 use Rattle.presumptions.specs.declared.Participant.{Participant}
-use Rattle.order_laws.proofs.InLaws.{found_there, in_map}
 use Rattle.fed_rules.specs.declared.commands.Command.{Command}
 use Rattle.fed_rules.specs.declared.commands.Command.TheVariants as Cmd
 use Rattle.fed_rules.specs.declared.messages.FromSite.{FromSite}

@@ -6,12 +6,8 @@ use Rattle.std.proofs.lemmas.Bool.{eqb-true, lt-ltb}
 use Rattle.std.proofs.lemmas.List.{append_cancel_right, length-map, length-reverse, map-append, reverse-append, reverse-reverse}
 use Rattle.mdb_base.specs.declared.names.SiteId.{SiteId}
 use Rattle.mdb_base.specs.Words.{how_many}
-use Rattle.mdb_base.proofs.ListLaws.{append_none, those_pass}
-use Rattle.mdb_base.proofs.OptionLaws.{some_parts}
-use Rattle.mdb_base.proofs.JoinLaws.{reverse_more}
-use Rattle.mdb_base.proofs.PlaceLaws.{slice_get-below}
-use Rattle.mdb_base.proofs.EachLaws.{each_at_place}
-use Rattle.order_laws.proofs.Reversed.{map_reverse}
+use Rattle.mdb_base.proofs.ForCallers.{append_none, each_at_place, reverse_more, slice_get-below, some_parts, those_pass}
+use Rattle.order_laws.proofs.ForCallers.{map_reverse}
 use Rattle.fed_rules.specs.declared.commands.Command.{Command}
 use Rattle.fed_rules.specs.declared.commands.Command.TheVariants as Cmd
 use Rattle.fed_rules.specs.declared.commands.Stamped.{Stamped}
@@ -28,8 +24,8 @@ use Rattle.fed_rules.specs.SiteRecords.{Home}
 use Rattle.fed_rules.specs.Story.{coord_past, past_of}
 use Rattle.fed_messages.specs.declared.Envelope.{Envelope}
 use Rattle.trace_merge.specs.Traces.{Entry, IsTrace, lines_of, list_of}
-use Rattle.trace_merge.proofs.Places.{list_splits}
-use Rattle.world_laws.proofs.Sent.{homed}
+use Rattle.trace_merge.proofs.ForCallers.{list_splits}
+use Rattle.world_laws.proofs.ForCallers.{homed}
 use Rattle.host_laws.specs.CoordHistory.{IsCoordCommand, IsCoordHistory, IsCoordNext}
 use Rattle.host_laws.specs.CoordPlans.{CoordPlan}
 use Rattle.host_laws.specs.CoordTurns.{CoordTurn, coord_is_due, coord_past_of, coord_trips_of}

@@ -6,10 +6,9 @@ use Rattle.std.proofs.lemmas.List.{append-nil}
 use Rattle.mdb_base.specs.declared.names.SiteId.{SiteId}
 use Rattle.mdb_base.specs.Names.{same_site}
 use Rattle.mdb_base.specs.Words.{Each}
-use Rattle.mdb_base.proofs.OptionLaws.{some_parts}
+use Rattle.mdb_base.proofs.ForCallers.{some_parts}
 use Rattle.order_laws.specs.Chains.{In}
-use Rattle.order_laws.proofs.Reversed.{map_reverse}
-use Rattle.order_laws.proofs.InLaws.{slice_get-in}
+use Rattle.order_laws.proofs.ForCallers.{map_reverse, slice_get-in}
 use Rattle.fed_rules.specs.declared.commands.Line.{Line}
 use Rattle.fed_rules.specs.declared.commands.Stamped.{Stamped}
 use Rattle.fed_rules.specs.declared.scenario.Scenario.{Scenario}
@@ -19,8 +18,8 @@ use Rattle.fed_rules.specs.Scenarios.{global_program, home_of, policy, protocols
 use Rattle.fed_rules.specs.SiteRecords.{Home}
 use Rattle.fed_rules.specs.Story as Told
 use Rattle.fed_rules.specs.Story.{coord_past}
-use Rattle.rules_laws.proofs.Declared.{home-again, its-site}
-use Rattle.world_laws.proofs.Sent.{homed}
+use Rattle.rules_laws.proofs.ForCallers.{home-again, its-site}
+use Rattle.world_laws.proofs.ForCallers.{homed}
 use Rattle.fed_rules.specs.Terms.{Terms}
 use Rattle.fed_rules.specs.OwnPrograms.{OwnPrograms, own_programs}
 use Rattle.coord_tables.specs.Terms.{Terms}

@@ -3,12 +3,10 @@ use Rattle.std.proofs.Common.{◌≡◌, ℕ, ◌<◌, true, false, Option, Some
 use Rattle.mdb_base.specs.declared.names.SiteId.{SiteId}
 use Rattle.mdb_base.specs.Names.{same_site}
 use Rattle.mdb_base.specs.Words.{found, item_at, some_of}
-use Rattle.mdb_base.proofs.Words.{cond-true}
-use Rattle.mdb_base.proofs.OptionLaws.{some_parts}
-use Rattle.mdb_base.proofs.NameLaws.{same_site-refl}
+use Rattle.mdb_base.proofs.ForCallers.{cond-true, same_site-refl, some_parts}
 use Rattle.order_laws.specs.Chains.{In}
 use Rattle.presumptions.specs.declared.Participant.{Participant}
-use Rattle.order_laws.proofs.InLaws.{found_there}
+use Rattle.order_laws.proofs.ForCallers.{found_there}
 use Rattle.fed_rules.specs.declared.commands.Command.{Command}
 use Rattle.fed_rules.specs.declared.commands.Line.{Line}
 use Rattle.fed_rules.specs.declared.commands.Stamped.{Stamped}

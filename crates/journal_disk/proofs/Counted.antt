@@ -2,7 +2,7 @@
 use Rattle.std.proofs.Common.{◌≡◌, ℕ, ◌+◌, ◌-◌, ◌≤◌, List, ◌++◌, length, take, drop, Some, refl, sym, ap, ◌∙◌, arith}
 use Rattle.std.proofs.lemmas.List.{length-take, take_rest, drop-drop, drop_at}
 use Rattle.byte_numbers.specs.Numbers.{IsBytes, number, number_at}
-use Rattle.byte_numbers.proofs.Numbers.{IsBytes-drop, length-number, number_takes}
+use Rattle.byte_numbers.proofs.ForCallers.{IsBytes-drop, length-number, number_takes}
 use Rattle.journal_disk.specs.Spans.{between, IsCounted}
 use Rattle.journal_disk.specs.declared.reading.Span.{Span}
 use Rattle.journal_disk.proofs.Whole.{take-past}

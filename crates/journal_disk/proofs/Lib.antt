@@ -1,5 +1,6 @@
-pub mod Counted
-pub mod Parts
-pub mod Room
-pub mod Scan
-pub mod Whole
+pub mod ForCallers
+mod Counted
+mod Parts
+mod Room
+mod Scan
+mod Whole

@@ -4,7 +4,7 @@ use Rattle.std.proofs.lemmas.List.{take-append-drop, length-append, length-repli
 use Rattle.byteorder.specs.Endian.{big_number}
 use Rattle.byteorder.specs.Numbers.{big_from-lt}
 use Rattle.byte_numbers.specs.Numbers.{IsBytes, number, number_at}
-use Rattle.byte_numbers.proofs.Numbers.{IsBytes-drop, length-number, number-big_number, number_takes, number_none}
+use Rattle.byte_numbers.proofs.ForCallers.{IsBytes-drop, length-number, number-big_number, number_none, number_takes}
 use Rattle.journal_disk.specs.Frames.{Old, New, frame_bytes, IsPartOfFrame}
 use Rattle.journal_disk.specs.Spans.{frame_at, BeginsNew}
 use Rattle.journal_disk.specs.declared.frames.Version.TheVariants.{First, Second}

@@ -2,7 +2,7 @@
 use Rattle.std.proofs.Common.{◌≡◌, ℕ, ◌-◌, ◌≤◌, List, [], ◌∷◌, ◌++◌, length, take, drop, refl, ap, ◌∙◌, arith, append_assoc}
 use Rattle.std.proofs.lemmas.List.{append-nil, length-append, length-drop, nil_from_length}
 use Rattle.byte_numbers.specs.Numbers.{number}
-use Rattle.byte_numbers.proofs.Numbers.{length-number}
+use Rattle.byte_numbers.proofs.ForCallers.{length-number}
 use Rattle.journal_disk.specs.Room.{payload_in}
 use Rattle.journal_disk.proofs.Whole.{take-past}
 use borrow.Rule.Slice.PartMut.{put_mid}

@@ -2,7 +2,7 @@
 use Rattle.std.proofs.Common.{◌≡◌, ℕ, zero, suc, ◌+◌, ◌<◌, List, [], ◌∷◌, ◌++◌, length, get_or, drop, refl, sym, ap, ◌∙◌, arith, append_assoc}
 use Rattle.std.specs.List.{AllByRecursion}
 use Rattle.std.proofs.lemmas.List.{append-nil, length-append, length-drop, map_push}
-use Rattle.mdb_base.proofs.JoinLaws.{all_push}
+use Rattle.mdb_base.proofs.ForCallers.{all_push}
 use Rattle.journal_disk.specs.Frames.{Frame, Old, New, IsFrame, IsRight, IsPayload, IsPartOfFrame, AreRight, AreWhole, IsDamagedBehind, frame_bytes, frame_size, frames, frames_size}
 use Rattle.journal_disk.specs.Spans.{between, piece, with_digest, frame_at, frames_at, IsWithin, Scans}
 use Rattle.journal_disk.specs.declared.frames.Version.{Version}

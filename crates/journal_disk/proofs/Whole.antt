@@ -4,7 +4,7 @@ use Rattle.std.specs.List.{AllByRecursion}
 use Rattle.std.proofs.lemmas.Bool.{cases_lt, le-leb, lt-leb}
 use Rattle.std.proofs.lemmas.List.{append-nil, length-append, length-drop, take-append-drop, take-append-le, take_at, drop_at}
 use Rattle.byte_numbers.specs.Numbers.{number, number_at}
-use Rattle.byte_numbers.proofs.Numbers.{number_again}
+use Rattle.byte_numbers.proofs.ForCallers.{number_again}
 use Rattle.sha2.proofs.Facts256.{length-sha256}
 use Rattle.journal_disk.specs.Disk.{Image, MayLeave, stopped, kept_bytes}
 use Rattle.journal_disk.specs.Frames.{Frame, Old, New, IsPayload, IsFrame, IsRight, digest_of, written, frame, frame_bytes, frame_size, frames, IsPartOfFrame, AreRight, AreWhole, IsDamagedBehind, whole_within}

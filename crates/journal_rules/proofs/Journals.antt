@@ -3,15 +3,14 @@ use Rattle.std.proofs.Common.{◌≡◌, ℕ, ◌+◌, Bool, true, false, cond, 
 use Rattle.std.specs.Prelude.{reverse}
 use Rattle.std.specs.List.{AllByRecursion}
 use Rattle.std.proofs.lemmas.List.{length-append, reverse-append}
-use Rattle.mdb_base.proofs.JoinLaws.{all_push}
+use Rattle.mdb_base.proofs.ForCallers.{all_push}
 use Rattle.fed_rules.specs.Disk.{Disk, bytes_of, is_torn, journal as journal_of, standing, whole}
 use Rattle.journal_disk.specs.Disk.{Seen}
 use Rattle.journal_disk.specs.Frames.{AreWhole, frames_size}
-use Rattle.journal_disk.proofs.Whole.{one_reading}
+use Rattle.journal_disk.proofs.ForCallers.{one_reading}
 use Rattle.frame_journal.specs.Journal.{IsKeptOn, Kept}
 use Rattle.frame_journal.specs.Records.{as_written, before_last, entry_frame, spelled_size, values}
-use Rattle.frame_journal.proofs.Apart.{one_list}
-use Rattle.frame_journal.proofs.Trimmed.{lt_shift}
+use Rattle.frame_journal.proofs.ForCallers.{lt_shift, one_list}
 use Rattle.journal_rules.specs.Stands.{CountsFrames, StandsFor, record_frame}
 use Rattle.journal_rules.proofs.Keeps.{journal_is, journal_stands, sizes_agree}
 

@@ -6,15 +6,11 @@ use Rattle.std.proofs.lemmas.List.{length-append, length-take-le, map-append, re
 use Rattle.fed_rules.specs.Disk.{Call, Append, Sync, CutBack, TrimFront, Stops, Disk, before_last, bytes_of, whole, after_call, after_calls, empty_disk, is_torn, standing, journal}
 use Rattle.journal_disk.specs.Disk.{Image, no_bytes, appended, cut_to, stopped, kept_bytes, trimmed_to}
 use Rattle.journal_disk.specs.Frames.{Frame, IsPayload, AreRight, frame, frame_size, frames}
-use Rattle.journal_disk.proofs.Whole.{written_is_frame}
+use Rattle.journal_disk.proofs.ForCallers.{written_is_frame}
 use Rattle.frame_journal.specs.Records.{AreRecordsOf, spelled, spelled_size, records_within}
-use Rattle.frame_journal.proofs.Apart.{whole_records}
-use Rattle.frame_journal.proofs.Keeping.{none_is_part, length-frames, cut_image, cut_holds, note_whole, frames_append}
-use Rattle.frame_journal.proofs.Sizes.{spelled_size_push}
-use Rattle.frame_journal.proofs.Within.{within_all, within_last}
+use Rattle.frame_journal.proofs.ForCallers.{cut_holds, cut_image, frames_append, length-frames, new_size, none_is_part, note_whole, spelled_size_push, whole_records, within_all, within_last}
 use Rattle.journal_rules.specs.Stands.{StandsWhole, StandsFor, CountsFrames, with_front, record_frame, image_after, MayCome, image_after_calls, AllMayCome}
 use Rattle.std.proofs.Math.Seq.{take-append-add, drop-append_seam}
-use Rattle.frame_journal.proofs.Entries.{new_size}
 
 module _ {R : Type 0} (spelling : R → List ℕ) (size : R → ℕ) (counts : CountsFrames spelling size) where
   reverse-cons : (newest : R) (records : List R) → reverse (newest ∷ records) ≡ reverse records ++ newest ∷ []

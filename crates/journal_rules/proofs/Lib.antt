@@ -1,5 +1,6 @@
-pub mod Keeps
-pub mod Journals
-pub mod Making
-pub mod Respelling
-pub mod Torn
+pub mod ForCallers
+mod Keeps
+mod Journals
+mod Making
+mod Respelling
+mod Torn

@@ -11,7 +11,7 @@ use Rattle.journal_disk.specs.Disk.{Image, IsSound, Seen, all_synced, appended, 
 use Rattle.journal_disk.specs.Frames.{AreWhole, IsPayload, frame}
 use Rattle.frame_journal.specs.Journal.{IsKeptOn, Kept}
 use Rattle.frame_journal.specs.Records.{AreRecordsOf, Entry, Loads, as_written, before_last, entry_frame, spelled, spelled_size, values}
-use Rattle.frame_journal.proofs.Keeping.{cut_image, length-frames}
+use Rattle.frame_journal.proofs.ForCallers.{cut_image, length-frames}
 use Rattle.journal_rules.specs.Calls.{Follows, IsAfter, IsOf, NoneFailed, bytes_after, calls_of, disk_after, unless_torn}
 use Rattle.journal_rules.specs.declared.calls.JournalCall.{JournalCall}
 use Rattle.journal_rules.specs.Stands.{AllMayCome, CountsFrames, StandsFor, image_after_calls, record_frame}

@@ -5,13 +5,10 @@ use Rattle.std.proofs.lemmas.List.{append-nil, length-append, drop-append-le, dr
 use Rattle.std.proofs.Math.Seq.{take-append-add, drop-append_seam}
 use Rattle.journal_disk.specs.Disk.{Image, Seen, appended, all_synced, cut_to, stopped, synced_bytes, kept_bytes, trimmed_to, AppendsSome, SyncsSome, CutsOrNot}
 use Rattle.journal_disk.specs.Frames.{Frame, AreRight, frame_size, frames, frames_size}
-use Rattle.journal_disk.proofs.Whole.{written_is_frame}
+use Rattle.journal_disk.proofs.ForCallers.{written_is_frame}
 use Rattle.frame_journal.specs.Journal.{IsKeptOn, Kept}
 use Rattle.frame_journal.specs.Records.{Entry, as_written, entry_frame, records_within, spelled, spelled_size, values}
-use Rattle.frame_journal.proofs.Keeping.{length-frames}
-use Rattle.frame_journal.proofs.Entries.{frame_in_payload}
-use Rattle.frame_journal.proofs.Sizes.{spelled_append}
-use Rattle.frame_journal.proofs.Trimmed.{lt_shift}
+use Rattle.frame_journal.proofs.ForCallers.{frame_in_payload, length-frames, lt_shift, spelled_append}
 use Rattle.journal_rules.specs.Stands.{record_frame, respelled, with_front}
 use Rattle.journal_rules.proofs.Journals.{written_frames, written_values}
 

@@ -8,9 +8,7 @@ use Rattle.fed_rules.specs.Disk.{Call, Append, Sync, CutBack, TrimFront, Stops, 
 use Rattle.journal_disk.specs.Disk.{Image, no_bytes, appended, kept_bytes}
 use Rattle.journal_disk.specs.Frames.{Frame, frame}
 use Rattle.frame_journal.specs.Records.{spelled}
-use Rattle.frame_journal.proofs.Entries.{new_size}
-use Rattle.frame_journal.proofs.Keeping.{length-frames}
-use Rattle.frame_journal.proofs.Sizes.{spelled_push}
+use Rattle.frame_journal.proofs.ForCallers.{length-frames, new_size, spelled_push}
 use Rattle.journal_rules.specs.Stands.{AllMayCome, CountsFrames, MayCome, StandsFor, image_after, image_after_calls, record_frame}
 use Rattle.journal_rules.specs.Torn.{IsPartOf, IsRestOf, IsTornBy, rest_of}
 use Rattle.journal_rules.proofs.Keeps.{bytes_behind, call_stands, from_empty, sizes_agree, take_behind}

@@ -3,14 +3,14 @@ use Rattle.std.proofs.Common.{◌≡◌, false, cond, Option, Some, None, List, 
 use Rattle.mdb_base.specs.declared.names.Tid.{Tid}
 use Rattle.mdb_base.specs.Names.{same_tid}
 use Rattle.mdb_base.specs.Words.{Each}
-use Rattle.mdb_base.proofs.NameLaws.{same_tid-sym}
+use Rattle.mdb_base.proofs.ForCallers.{same_tid-sym}
 use Rattle.engine_laws.specs.Laws.{EachOnce}
 use Rattle.fed_rules.specs.declared.records.SiteRecord.{SiteRecord}
 use Rattle.fed_rules.specs.declared.sums.SiteSum.{SiteSum}
 use Rattle.fed_rules.specs.SiteRecords.{Held, Home, kept_held}
 use Rattle.fed_rules.specs.SiteSums.{behind_sum, carried, journal_sum, last_sum, sum_behind}
 use Rattle.prepared_state.specs.Book.{AreApart, doubt_about}
-use Rattle.site_history.proofs.Restarts.{once_doubts}
+use Rattle.site_history.proofs.ForCallers.{once_doubts}
 use Rattle.journal_sums.specs.Starts.{doubt_held}
 
 pub once_in_journal : (home : Home) (journal : List SiteRecord) → EachOnce (map kept_held (journal_sum home journal).doubtful)

@@ -11,22 +11,16 @@ use Rattle.std.proofs.lemmas.Bool.Decides.{nat_tests}
 use Rattle.mdb_base.specs.declared.names.Tid.{Tid}
 use Rattle.mdb_base.specs.Names.{same_tid, tid_before, tid_cmp}
 use Rattle.mdb_base.specs.Words.{Each, found, inserted, with_some}
-use Rattle.mdb_base.proofs.ListLaws.{each_map}
-use Rattle.mdb_base.proofs.NameLaws.{same_tid-refl}
+use Rattle.mdb_base.proofs.ForCallers.{each_map, less_before, same_tid-refl}
 use Rattle.order_laws.specs.Chains.{In}
-use Rattle.order_laws.proofs.Members.{in_each}
-use Rattle.order_laws.proofs.Names.{is_eq-tid_cmp, ranks_tids}
-use Rattle.order_laws.proofs.InLaws.{before_irreflexive}
+use Rattle.order_laws.proofs.ForCallers.{before_irreflexive, in_each, is_eq-tid_cmp, ranks_tids}
 use Rattle.engine_laws.specs.Laws.{EachOnce}
 use Rattle.fed_rules.specs.declared.records.SiteRecord.{SiteRecord}
 use Rattle.fed_rules.specs.Attempts.{each_attempt}
 use Rattle.fed_rules.specs.SiteRecords.{Held, doubt_of, doubts, held_before, kept_held, prepared_tids}
 use Rattle.fed_rules.specs.SiteSums.{carried}
-use Rattle.rules_laws.proofs.Doubts.{AreSorted, sorted_by_tid}
-use Rattle.site_history.proofs.Restarts.{each_by_tid, each_found_from, once_doubts}
-use Rattle.site_history.proofs.Starts.{doubt_tid}
-use Rattle.site_history.proofs.Doubted.{are_doubt}
-use Rattle.mdb_base.proofs.NameOrders.{less_before}
+use Rattle.rules_laws.proofs.ForCallers.{AreSorted, sorted_by_tid}
+use Rattle.site_history.proofs.ForCallers.{are_doubt, doubt_tid, each_by_tid, each_found_from, once_doubts}
 
 -- the next one that a Checkpoint carries, of the last ones first
 pub next_carried : (helds : List Held) (n : ℕ) (held : Held) (tid : Tid) (kept now : Option Held) → slice_get helds n ≡ Some held →

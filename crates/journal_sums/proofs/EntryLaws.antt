@@ -11,7 +11,7 @@ use Rattle.mdb_base.specs.declared.rows.Put.{Put}
 use Rattle.mdb_base.specs.Names.{same_key}
 use Rattle.mdb_base.specs.Rising.{IsRising}
 use Rattle.mdb_base.specs.Rows.{value_in}
-use Rattle.mdb_base.proofs.NumberLaws.{nat_cmp-less}
+use Rattle.mdb_base.proofs.ForCallers.{nat_cmp-less}
 use Rattle.journal_sums.specs.declared.versions.Version.{Version}
 use Rattle.journal_sums.specs.Versions.{key_cmp, row_of}
 

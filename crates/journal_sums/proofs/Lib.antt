@@ -1,8 +1,9 @@
-pub mod CounterLaws
-pub mod VersionLaws
-pub mod EntryLaws
-pub mod Merging
-pub mod DoubtLaws
-pub mod ReadingLaws
-pub mod DifferLaws
-pub mod CoordReadingLaws
+pub mod ForCallers
+mod CounterLaws
+mod VersionLaws
+mod EntryLaws
+mod Merging
+mod DoubtLaws
+mod ReadingLaws
+mod DifferLaws
+mod CoordReadingLaws

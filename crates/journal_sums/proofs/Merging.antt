@@ -7,8 +7,8 @@ use Rattle.mdb_base.specs.declared.rows.Put.{Put}
 use Rattle.mdb_base.specs.Names.{same_key}
 use Rattle.mdb_base.specs.Rising.{IsRising}
 use Rattle.mdb_base.specs.Rows.{with_row, with_rows}
-use Rattle.mdb_base.proofs.RowLaws.{rising_tail}
-use Rattle.engine_laws.proofs.Rows.{rising_with_rows}
+use Rattle.mdb_base.proofs.ForCallers.{rising_tail}
+use Rattle.engine_laws.proofs.ForCallers.{rising_with_rows}
 use Rattle.journal_sums.proofs.VersionLaws.{rising_behind}
 
 -- the rows rise by their keys

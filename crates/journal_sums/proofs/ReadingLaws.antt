@@ -13,7 +13,7 @@ use Rattle.mdb_base.specs.Names.{same_tid, tid_before, tid_cmp}
 use Rattle.mdb_base.specs.Rising.{IsRising}
 use Rattle.mdb_base.specs.Rows.{value_in}
 use Rattle.mdb_base.specs.Words.{inserted, or_else}
-use Rattle.mdb_base.proofs.RowLaws.{same_rows}
+use Rattle.mdb_base.proofs.ForCallers.{same_rows}
 use Rattle.presumptions.specs.declared.Decision.TheVariants as Decided
 use Rattle.fed_rules.specs.declared.records.SiteRecord.{SiteRecord}
 use Rattle.fed_rules.specs.declared.records.SiteRecord.TheVariants.{Setup, Start, Prepared, Ended, Local, Checkpoint}
@@ -26,7 +26,7 @@ use Rattle.journal_sums.specs.declared.versions.Versions.{Versions}
 use Rattle.journal_sums.specs.Journals.{Begins, IsFirst, IsJournal, IsJournalOf, base, first_sum}
 use Rattle.journal_sums.specs.Locals.{local_tids}
 use Rattle.order_laws.specs.SortedLists.{also}
-use Rattle.engine_laws.proofs.Rows.{rising_rows_after}
+use Rattle.engine_laws.proofs.ForCallers.{rising_rows_after}
 use Rattle.journal_sums.specs.Readings.{Adds, Holds, Says, SaysJournal, TellsCounters}
 use Rattle.journal_sums.specs.Versions.{kept, row_of, version_after, version_in}
 use Rattle.journal_sums.proofs.DoubtLaws.{values_doubts}

@@ -8,9 +8,7 @@ use Rattle.mdb_base.specs.Names.{same_key}
 use Rattle.mdb_base.specs.Rising.{IsRising}
 use Rattle.mdb_base.specs.Rows.{value_in}
 use Rattle.mdb_base.specs.Words.{Each}
-use Rattle.mdb_base.proofs.ListLaws.{each_map, each_inserted}
-use Rattle.mdb_base.proofs.OptionLaws.{first_of}
-use Rattle.mdb_base.proofs.RowLaws.{value_in-with_rows}
+use Rattle.mdb_base.proofs.ForCallers.{each_inserted, each_map, first_of, value_in-with_rows}
 use Rattle.presumptions.specs.declared.Decision.TheVariants as Decided
 use Rattle.fed_rules.specs.declared.records.SiteRecord.{SiteRecord}
 use Rattle.fed_rules.specs.declared.records.SiteRecord.TheVariants.{Setup, Start, Prepared, Ended, Local, Checkpoint}

@@ -15,11 +15,9 @@ use Rattle.fed_rules.specs.SitePast as Site
 use Rattle.fed_rules.specs.SiteRecords.{Home, site_frame}
 use Rattle.fed_rules.specs.Story.{Story, coord_past, past_of, story_of}
 use Rattle.fed_rules.specs.Usable.{AreUnnamed, IsUsableCoordinator, IsUsableSite}
-use Rattle.commit_laws.proofs.Links.{home-again}
-use Rattle.disk_laws.proofs.AllRules.{usable_coordinators}
-use Rattle.disk_laws.proofs.Apart.{locals_not_named}
-use Rattle.resume_laws.proofs.GoesOn.{same_plan}
-use Rattle.resume_laws.proofs.Readable.{disks_readable}
+use Rattle.commit_laws.proofs.ForCallers.{home-again}
+use Rattle.disk_laws.proofs.ForCallers.{locals_not_named, usable_coordinators}
+use Rattle.resume_laws.proofs.ForCallers.{disks_readable, same_plan}
 use Rattle.journal_disk.specs.Disk.{Image, Seen}
 use Rattle.frame_journal.specs.Journal.{Kept, records}
 use Rattle.coord_journal.specs.Exact as coord_exact
@@ -32,7 +30,7 @@ use Rattle.usable_journals.specs.Disks.{AreUsableFrom, IsUsableDisk, members_fro
 use Rattle.found_disks.specs.declared.reading.Journals.{Journals}
 use Rattle.found_disks.specs.Finding.{NamesOf}
 use Rattle.found_disks.specs.Reading.{AreRead, AreReadFrom, HasBytes, IsDamagedAt, IsFirstDamaged, IsReadFirst, images_of}
-use Rattle.found_disks.proofs.UsableFinds.{members_are}
+use Rattle.found_disks.proofs.ForCallers.{members_are}
 use Rattle.left_disks.specs.Holding.{HoldsAt}
 use Rattle.left_disks.specs.Left.{IsLeft}
 use Rattle.left_disks.proofs.LeftJournals.{Declared, SiteRead, Undeclared, coordinator_is, holds, left_is_found, site_read}

@@ -3,12 +3,12 @@ use Rattle.std.proofs.Common.{◌≡◌, ◌⊎◌, ℕ, ◌+◌, ◌<◌, ◌�
 use Rattle.std.proofs.lemmas.Bool.{cases_lt}
 use Rattle.mdb_base.specs.declared.names.SiteId.{SiteId}
 use Rattle.mdb_base.specs.Words.{Among, Each, found as each_found, with_some}
-use Rattle.mdb_base.proofs.ListLaws.{each_map}
+use Rattle.mdb_base.proofs.ForCallers.{each_map}
 use Rattle.presumptions.specs.declared.Participant.{Participant}
 use Rattle.fed_rules.specs.declared.records.SiteRecord.{SiteRecord}
 use Rattle.fed_rules.specs.Found.{Journal}
-use Rattle.rules_laws.proofs.Scenarios.{MembersRise}
-use Rattle.commit_laws.proofs.Declared.{rising_on, rising_over}
+use Rattle.rules_laws.proofs.ForCallers.{MembersRise}
+use Rattle.commit_laws.proofs.ForCallers.{rising_on, rising_over}
 use Rattle.journal_disk.specs.Disk.{Image}
 use Rattle.frame_journal.specs.Journal.{Kept, records}
 use Rattle.site_journal.specs.Spelling as Sites

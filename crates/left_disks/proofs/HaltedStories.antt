@@ -5,13 +5,9 @@ use Rattle.mdb_base.specs.declared.names.SiteId.{SiteId}
 use Rattle.mdb_base.specs.declared.names.Tid.{Tid}
 use Rattle.mdb_base.specs.Names.{same_site, same_tid, tid_before}
 use Rattle.mdb_base.specs.Words.{Each, given}
-use Rattle.mdb_base.proofs.JoinLaws.{length-append}
-use Rattle.mdb_base.proofs.ListLaws.{each_map}
-use Rattle.mdb_base.proofs.NameLaws.{same_site-equal, same_site-refl}
-use Rattle.mdb_base.proofs.OptionLaws.{some_parts}
+use Rattle.mdb_base.proofs.ForCallers.{each_map, length-append, same_site-equal, same_site-refl, some_parts}
 use Rattle.order_laws.specs.Least.{least_merge}
-use Rattle.order_laws.proofs.Lists.{among_is, each_at}
-use Rattle.order_laws.proofs.Reversed.{map_same}
+use Rattle.order_laws.proofs.ForCallers.{among_is, each_at, map_same}
 use Rattle.presumptions.specs.declared.Participant.{Participant}
 use Rattle.fed_rules.specs.declared.answers.Answer.TheVariants as Say
 use Rattle.fed_rules.specs.declared.commands.Command.{Command}
@@ -37,12 +33,9 @@ use Rattle.fed_rules.specs.SitePast as Site
 use Rattle.fed_rules.specs.SitePast.{SiteHappening, SitePast}
 use Rattle.fed_rules.specs.SiteRecords.{Home, order_of, site_frame}
 use Rattle.fed_rules.specs.Story.{AtCoordinator, AtSite, Happened, Nowhere, Story, at_site, coord_past, happens, on_actor, on_site, past_of, story_of}
-use Rattle.commit_laws.proofs.Declared.{is-declared}
-use Rattle.commit_laws.proofs.Links.{home-again, its-site, story_made}
-use Rattle.site_history.proofs.Journals.{IsSummed}
-use Rattle.site_history.proofs.SitesOfStories.{of_events}
-use Rattle.site_history.proofs.SummedPasts.{pasts_summed}
-use Rattle.found_laws.proofs.PlanSites.{IsInRange, members_range}
+use Rattle.commit_laws.proofs.ForCallers.{home-again, is-declared, its-site, story_made}
+use Rattle.site_history.proofs.ForCallers.{IsSummed, of_events, pasts_summed}
+use Rattle.found_laws.proofs.ForCallers.{IsInRange, members_range}
 use Rattle.journal_disk.specs.Disk.{Image, Seen}
 use Rattle.coord_journal.specs.Spelling as Coordinators
 use Rattle.site_journal.specs.Spelling as Sites

@@ -7,7 +7,7 @@ use Rattle.closing_laws.specs.AtRest.{IsAtRest}
 use Rattle.resume_laws.specs.Rightly.{SessionsRest}
 use Rattle.found_disks.specs.declared.errors.ReopenErr.TheVariants as Err_is
 use Rattle.found_disks.specs.Reading.{images_of}
-use Rattle.found_disks.proofs.OneAnswer.{usable_or_foreign}
+use Rattle.found_disks.proofs.ForCallers.{usable_or_foreign}
 use Rattle.left_disks.specs.Ended.{EndedSessionsAreFoundAgain, EndedSessionsLeaveDisks}
 use Rattle.left_disks.specs.Left.{LeftDisksAreAccepted, LeftDisksAreFoundAgain, LeftDisksAreUsable, LeftDisksGoOn, LeftDisksTellTheSession}
 use Rattle.left_disks.proofs.Accepted.{none_is_damaged, none_is_named}

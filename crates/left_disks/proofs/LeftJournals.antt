@@ -3,9 +3,8 @@ use Rattle.std.proofs.Common.{◌≡◌, ◌⊎◌, ℕ, zero, suc, ◌+◌, ◌
 use Rattle.std.specs.Prelude.{slice_get}
 use Rattle.mdb_base.specs.declared.names.SiteId.{SiteId}
 use Rattle.mdb_base.specs.Words.{Among, with_some}
-use Rattle.mdb_base.proofs.ListLaws.{each_map}
-use Rattle.mdb_base.proofs.PlaceLaws.{made_of}
-use Rattle.order_laws.proofs.Lists.{among_weaker}
+use Rattle.mdb_base.proofs.ForCallers.{each_map, made_of}
+use Rattle.order_laws.proofs.ForCallers.{among_weaker}
 use Rattle.presumptions.specs.declared.Participant.{Participant}
 use Rattle.fed_rules.specs.declared.commands.Command.{Command}
 use Rattle.fed_rules.specs.declared.records.CoordRecord.{CoordRecord}
@@ -22,11 +21,10 @@ use Rattle.fed_rules.specs.SitePast.{SitePast}
 use Rattle.fed_rules.specs.SiteRecords.{Home, site_frame}
 use Rattle.fed_rules.specs.Story.{Story, coord_past, past_of, story_of}
 use Rattle.fed_rules.specs.Usable.{IsUsableSite}
-use Rattle.commit_laws.proofs.Declared.{is-declared, members_rise}
-use Rattle.commit_laws.proofs.Links.{home-again, its-site, story_made}
-use Rattle.site_history.proofs.SitesOfStories.{of_events}
-use Rattle.disk_laws.proofs.AllRules.{usable_sites}
-use Rattle.found_laws.proofs.PlanSites.{IsInRange, members_range}
+use Rattle.commit_laws.proofs.ForCallers.{home-again, is-declared, its-site, members_rise, story_made}
+use Rattle.site_history.proofs.ForCallers.{of_events}
+use Rattle.disk_laws.proofs.ForCallers.{usable_sites}
+use Rattle.found_laws.proofs.ForCallers.{IsInRange, members_range}
 use Rattle.journal_disk.specs.Disk.{Image, Seen}
 use Rattle.frame_journal.specs.Journal.{Kept, records}
 use Rattle.coord_journal.specs.Exact as coord_exact

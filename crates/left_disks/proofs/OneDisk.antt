@@ -10,12 +10,9 @@ use Rattle.journal_disk.specs.Disk.{Image}
 use Rattle.journal_disk.specs.Frames.{AreWhole, frames_size}
 use Rattle.frame_journal.specs.Journal.{Kept, records}
 use Rattle.frame_journal.specs.Records.{AreRecordsOf, Entry, as_written, entry_frame, spelled_size, values}
-use Rattle.frame_journal.proofs.Apart.{one_list}
-use Rattle.frame_journal.proofs.Keeping.{none_is_part}
-use Rattle.frame_journal.proofs.ReadOn.{records_again}
+use Rattle.frame_journal.proofs.ForCallers.{none_is_part, one_list, records_again}
 use Rattle.journal_rules.specs.Stands.{CountsFrames}
-use Rattle.journal_rules.proofs.Journals.{all_reverse, written_frames, written_values}
-use Rattle.journal_rules.proofs.Keeps.{sizes_agree}
+use Rattle.journal_rules.proofs.ForCallers.{all_reverse, sizes_agree, written_frames, written_values}
 use Rattle.found_disks.specs.Finding.{journal_on, torn_behind}
 use Rattle.found_disks.specs.Reading.{IsDamagedAt, IsReadFrom}
 use Rattle.left_disks.specs.Holding.{HoldsRecords}

@@ -12,13 +12,12 @@ use Rattle.fed_rules.specs.Policies.{Policy}
 use Rattle.fed_rules.specs.Site.{site_past}
 use Rattle.fed_rules.specs.SitePast as Site
 use Rattle.fed_rules.specs.SiteRecords.{site_frame}
-use Rattle.rules_laws.proofs.SiteRecords as sites
+use Rattle.rules_laws.proofs.ForCallers as sites
 use Rattle.coord_laws.specs.Pasts.{IsMadeByEvents}
-use Rattle.coord_laws.proofs.CoordTrims as coordinators
+use Rattle.coord_laws.proofs.ForCallers as coordinators
 use Rattle.site_history.specs.SiteOrders.{OfSortedEvents}
-use Rattle.site_history.proofs.Journals.{IsTrimmed, standing_trimmed}
-use Rattle.site_history.proofs.SummedPasts.{pasts_summed}
-use Rattle.journal_rules.proofs.Journals.{bytes_of_append}
+use Rattle.site_history.proofs.ForCallers.{IsTrimmed, pasts_summed, standing_trimmed}
+use Rattle.journal_rules.proofs.ForCallers.{bytes_of_append}
 use Rattle.left_disks.proofs.OneDisk.{IsTrimmedWell}
 
 module _ {R : Type 0} (size : R → ℕ) (d : Disk R) where

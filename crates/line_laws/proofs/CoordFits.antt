@@ -8,11 +8,11 @@ use Rattle.mdb_base.specs.declared.names.Tid.{Tid}
 use Rattle.mdb_base.specs.declared.names.Tx.{Tx}
 use Rattle.mdb_base.specs.Names.{same_site, same_tid}
 use Rattle.mdb_base.specs.Words.{Each, each_of, given, when}
-use Rattle.mdb_base.proofs.NameLaws.{same_site-equal, same_tid-equal, same_tid-refl}
+use Rattle.mdb_base.proofs.ForCallers.{same_site-equal, same_tid-equal, same_tid-refl}
 use Rattle.order_laws.specs.Chains.{In}
 use Rattle.order_laws.specs.Search.{cycle_through}
 use Rattle.order_laws.specs.Tickets.{edge_between}
-use Rattle.order_laws.proofs.Lists.{each_at}
+use Rattle.order_laws.proofs.ForCallers.{each_at}
 use Rattle.presumptions.specs.declared.Participant.{Participant}
 use Rattle.fed_rules.specs.declared.answers.Answer.TheVariants as Say
 use Rattle.fed_rules.specs.declared.answers.Cause.TheVariants as For
@@ -31,9 +31,8 @@ use Rattle.fed_rules.specs.CoordRecords.{committed_of, commits, coord_frame, coo
 use Rattle.fed_rules.specs.Disk.{Call, Stops, longest}
 use Rattle.fed_rules.specs.Happenings.{Trip, is_down, quiet, stopped, tripped}
 use Rattle.fed_rules.specs.Policies.{Policy}
-use Rattle.coord_laws.proofs.Dues.{owed}
+use Rattle.coord_laws.proofs.ForCallers.{outstanding_site, owed}
 use Rattle.line_text.specs.Fits.{answer_fits}
-use Rattle.coord_laws.proofs.MadeLines.{outstanding_site}
 use Rattle.line_laws.proofs.Outstanding.{IsMember, Ready, ReadyFor, participant_at, ticket_in, visits_own}
 use Rattle.line_laws.proofs.Sorted.{Sorted, number_of, those_sorted}
 use Rattle.line_laws.proofs.CoordLines.{CoordGood, IsOf, aborts_good, commits_good, down_good, dues_sorted, found_cycle, late_of, other_open, others_ready, out_sorted, ready_as, same_either, tripped_good, vote_of}

@@ -11,10 +11,9 @@ use Rattle.mdb_base.specs.declared.replies.Reply.TheVariants as Reply_is
 use Rattle.mdb_base.specs.declared.replies.Why.TheVariants as Because
 use Rattle.mdb_base.specs.Names.{same_tid}
 use Rattle.mdb_base.specs.Words.{some_of, with_some}
-use Rattle.mdb_base.proofs.NameLaws.{same_tid-equal, same_tid-refl}
-use Rattle.mdb_base.proofs.BoolLaws.{and_false}
+use Rattle.mdb_base.proofs.ForCallers.{and_false, same_tid-equal, same_tid-refl}
 use Rattle.order_laws.specs.Chains.{In}
-use Rattle.order_laws.proofs.Lists.{in_those}
+use Rattle.order_laws.proofs.ForCallers.{in_those}
 use Rattle.presumptions.specs.declared.Participant.{Participant}
 use Rattle.fed_rules.specs.declared.answers.Answer.{Answer}
 use Rattle.fed_rules.specs.declared.answers.Answer.TheVariants as Say
@@ -33,9 +32,9 @@ use Rattle.fed_rules.specs.CoordPast.{CoordHappening, CoordPast, begins, counted
 use Rattle.fed_rules.specs.CoordRecords.{class_of, has_initiation, named}
 use Rattle.fed_rules.specs.Happenings.{comes_up, quiet, stops}
 use Rattle.fed_rules.specs.Policies.{Policy}
-use Rattle.rules_laws.proofs.Dues.{due_number}
+use Rattle.rules_laws.proofs.ForCallers.{due_number}
 use Rattle.line_text.specs.Fits.{answer_fits, coordinator_sends}
-use Rattle.federation_laws.proofs.Dues.{left_at}
+use Rattle.federation_laws.proofs.ForCallers.{left_at}
 use Rattle.line_laws.proofs.News.{NoTicket, now, reply_of, reply_ready, take_news, ticket_ready, work_news}
 use Rattle.line_laws.proofs.Outstanding.{FitsWork, IsMember, IsTaking, IsWorking, Ready, ReadyFor, fitting}
 use Rattle.line_laws.proofs.Sorted.{Sorted, number_of, those_sorted}

@@ -5,11 +5,10 @@ use Rattle.mdb_base.specs.declared.names.Tid.{Tid}
 use Rattle.mdb_base.specs.Names.{same_tid}
 use Rattle.mdb_base.specs.Words.{some_of, those, when}
 use Rattle.order_laws.specs.Chains.{In}
-use Rattle.order_laws.proofs.Lists.{among_is, each_at, each_of_false, some_of_is, those_in}
+use Rattle.order_laws.proofs.ForCallers.{among_is, each_at, each_of_false, found_there, some_of_is, those_in}
 use Rattle.presumptions.specs.declared.Decision.{Decision}
 use Rattle.presumptions.specs.declared.Participant.{Participant}
 use Rattle.presumptions.specs.Table.{acks}
-use Rattle.order_laws.proofs.InLaws.{found_there}
 use Rattle.fed_rules.specs.declared.answers.Answer.{Answer}
 use Rattle.fed_rules.specs.declared.answers.Answer.TheVariants as Say
 use Rattle.fed_rules.specs.declared.commands.Command.{Command}
@@ -24,8 +23,8 @@ use Rattle.fed_rules.specs.CoordPast.{CoordHappening, CoordPast, Decided, Gone, 
 use Rattle.fed_rules.specs.CoordRecords.{is_nobody, named, required_of}
 use Rattle.fed_rules.specs.Disk.{Append, Sync}
 use Rattle.fed_rules.specs.Policies.{Policy}
-use Rattle.rules_laws.proofs.Dues.{due_number}
-use Rattle.coord_laws.proofs.Dues.{IsOwed, all_owed}
+use Rattle.rules_laws.proofs.ForCallers.{due_number}
+use Rattle.coord_laws.proofs.ForCallers.{IsOwed, all_owed}
 use Rattle.line_text.specs.Fits.{answer_fits, coordinator_sends, is_only}
 use Rattle.line_laws.proofs.Outstanding.{Ready, out_somewhere}
 use Rattle.line_laws.proofs.Sorted.{Sorted, number_of, those_sorted}

@@ -33,12 +33,11 @@ use Rattle.fed_rules.specs.SiteCommands.{Verb, Begin, Step_on, Commit, Abort, Fa
 use Rattle.fed_rules.specs.SitePast.{SiteHappening, SitePast, trip}
 use Rattle.fed_rules.specs.SiteRecords.{Home}
 use Rattle.fed_rules.specs.Story.{Happened, AtSite, AtCoordinator, Nowhere, Story, coord_past, coord_requested, happens, on_actor, on_attempt, on_fate, on_give, on_go, on_local, on_site, on_take, past_of, requested, sent_from, sent_to, story_in}
-use Rattle.coord_laws.proofs.Past.{decided_awaited, records_name}
-use Rattle.commit_laws.proofs.FoundSessions.{session_goes_on}
-use Rattle.commit_laws.proofs.Trips.{HasCalls}
-use Rattle.federation_laws.proofs.Declared.{number_some}
+use Rattle.coord_laws.proofs.ForCallers.{decided_awaited, records_name}
+use Rattle.commit_laws.proofs.ForCallers.{HasCalls, session_goes_on}
+use Rattle.federation_laws.proofs.ForCallers.{number_some}
 use Rattle.rules_laws.specs.Lines.{CoordCause, IsCoordLine, IsSiteLine, SiteCause}
-use Rattle.rules_laws.proofs.Declared.{local-declared}
+use Rattle.rules_laws.proofs.ForCallers.{local-declared}
 use Rattle.line_text.specs.Fits.{answer_fits, is_begin_answer, is_only}
 use Rattle.line_laws.specs.Lines.{IsHeard}
 use Rattle.line_laws.proofs.CoordFits as Coord

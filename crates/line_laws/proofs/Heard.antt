@@ -4,9 +4,7 @@ use Rattle.mdb_base.specs.declared.names.SiteId.{SiteId}
 use Rattle.mdb_base.specs.declared.names.Tid.{Tid}
 use Rattle.mdb_base.specs.Names.{same_site}
 use Rattle.mdb_base.specs.Words.{Each, inserted, some_of, those}
-use Rattle.mdb_base.proofs.NameLaws.{same_site-refl}
-use Rattle.mdb_base.proofs.BoolLaws.{or_true}
-use Rattle.mdb_base.proofs.ListLaws.{each_append}
+use Rattle.mdb_base.proofs.ForCallers.{each_append, or_true, same_site-refl}
 use Rattle.order_laws.specs.Chains.{In}
 use Rattle.presumptions.specs.declared.Participant.{Participant}
 use Rattle.fed_rules.specs.declared.commands.Command.{Command}

@@ -7,11 +7,10 @@ use Rattle.mdb_base.specs.declared.replies.Reply.{Reply}
 use Rattle.mdb_base.specs.Names.{same_site}
 use Rattle.mdb_base.specs.Programs.{plain_act}
 use Rattle.mdb_base.specs.Words.{some_of, those, with_some}
-use Rattle.mdb_base.proofs.NameLaws.{same_site-equal, same_site-refl, same_tid-refl}
+use Rattle.mdb_base.proofs.ForCallers.{same_site-equal, same_site-refl, same_tid-refl}
 use Rattle.order_laws.specs.Chains.{In}
-use Rattle.order_laws.proofs.Lists.{each_at}
+use Rattle.order_laws.proofs.ForCallers.{each_at, found_there}
 use Rattle.presumptions.specs.declared.Participant.{Participant}
-use Rattle.order_laws.proofs.InLaws.{found_there}
 use Rattle.fed_rules.specs.declared.answers.Answer.TheVariants as Say
 use Rattle.fed_rules.specs.declared.events.CoordEvent.TheVariants as Ev
 use Rattle.fed_rules.specs.declared.messages.Due.{Due}
@@ -20,7 +19,7 @@ use Rattle.fed_rules.specs.declared.messages.FromSite.TheVariants as From
 use Rattle.fed_rules.specs.Coord.{news, news_at}
 use Rattle.fed_rules.specs.CoordPast.{Counted, CoordPast, count_at, counted, epoch_at, has_step_left, has_ticket_at, is_ticket, is_wait, next_step, outstanding, outstanding_at, participants, prepare_at, program, reads, steps_done, take_at, visits, vote_at, work_at}
 use Rattle.fed_rules.specs.Happenings.{quiet}
-use Rattle.federation_laws.proofs.Dues.{steps_of, left_at}
+use Rattle.federation_laws.proofs.ForCallers.{left_at, steps_of}
 use Rattle.line_laws.proofs.Outstanding.{IsMember, IsTaking, IsWorking, Ready, ReadyFor, last_out, left_all, left_before, next_in, next_left, next_there, participant_at, ticket_in, work_out}
 
 -- ---- one reply more

@@ -9,16 +9,15 @@ use Rattle.mdb_base.specs.declared.replies.Reply.{Reply}
 use Rattle.mdb_base.specs.Names.{same_site}
 use Rattle.mdb_base.specs.Programs.{plain_act}
 use Rattle.mdb_base.specs.Words.{Each, each_of, item_at, some_of, those}
-use Rattle.mdb_base.proofs.BoolLaws.{or_true}
-use Rattle.mdb_base.proofs.NameLaws.{same_site-equal, same_site-refl}
+use Rattle.mdb_base.proofs.ForCallers.{or_true, same_site-equal, same_site-refl}
 use Rattle.order_laws.specs.Chains.{In}
-use Rattle.order_laws.proofs.Lists.{each_at, in_those, those_in}
+use Rattle.order_laws.proofs.ForCallers.{each_at, in_those, those_in}
 use Rattle.presumptions.specs.declared.Participant.{Participant}
 use Rattle.fed_rules.specs.declared.messages.Due.{Due}
 use Rattle.fed_rules.specs.declared.messages.Due.TheVariants as Due_is
 use Rattle.fed_rules.specs.Coord.{fits, fits_act, fits_take, lacks_initiation}
 use Rattle.fed_rules.specs.CoordPast.{Counted, CoordPast, count_at, counted, epoch_at, has_step_left, has_ticket_at, is_ticket, next_step, outstanding, outstanding_at, participants, participants_of, prepare_at, program, reads, steps_done, take_at, visits, vote_at, work_at}
-use Rattle.federation_laws.proofs.Dues.{left_at}
+use Rattle.federation_laws.proofs.ForCallers.{left_at}
 
 -- a participant's site is among these
 abbrev pub IsMember : List Participant → SiteId → Type 0

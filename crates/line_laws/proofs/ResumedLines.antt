@@ -5,11 +5,9 @@ use Rattle.fed_rules.specs.CoordPast.{CoordPast}
 use Rattle.fed_rules.specs.Found.{Found}
 use Rattle.fed_rules.specs.Resumed.{going_on}
 use Rattle.fed_rules.specs.SitePast.{SitePast, trip}
-use Rattle.commit_laws.proofs.Trips.{HasCalls}
+use Rattle.commit_laws.proofs.ForCallers.{HasCalls}
 use Rattle.found_laws.specs.FoundSessions.{AreUsable}
-use Rattle.found_laws.proofs.FoundSessions.{begins, fits, nobody_first, plan_sites}
-use Rattle.found_laws.proofs.Idle.{idle}
-use Rattle.found_laws.proofs.Opening.{session_begins}
+use Rattle.found_laws.proofs.ForCallers.{begins, fits, idle, nobody_first, plan_sites, session_begins}
 use Rattle.line_laws.specs.Resumed.{ResumedLinesFit, ResumedNextLinesFit}
 use Rattle.line_laws.proofs.RightLines.{each_line_fits, next_line_fits}
 use Rattle.line_laws.proofs.Starts.{Starts}

@@ -7,7 +7,7 @@ use Rattle.mdb_base.specs.declared.names.Tid.{Tid}
 use Rattle.mdb_base.specs.declared.replies.Edge.{Edge}
 use Rattle.mdb_base.specs.Names.{same_site}
 use Rattle.mdb_base.specs.Words.{Each}
-use Rattle.mdb_base.proofs.NameLaws.{same_site-equal}
+use Rattle.mdb_base.proofs.ForCallers.{same_site-equal}
 use Rattle.presumptions.specs.declared.Decision.{Decision}
 use Rattle.presumptions.specs.declared.Decision.TheVariants as Decision_is
 use Rattle.presumptions.specs.declared.Participant.{Participant}
@@ -33,11 +33,10 @@ use Rattle.fed_rules.specs.SitePast.{SiteHappening, trip}
 use Rattle.fed_rules.specs.SiteRecords.{Home}
 use Rattle.fed_rules.specs.Story.{Happened, AtSite, AtCoordinator, Nowhere, Story, coord_past, happens, past_of, place_from, places_of, sends_from, sent_from, sent_to, story_in, with_coordinator, with_site}
 use Rattle.rules_laws.specs.Lines.{IsLine}
-use Rattle.rules_laws.proofs.Lines.{line_is}
+use Rattle.rules_laws.proofs.ForCallers.{line_is}
 use Rattle.line_text.specs.Fits.{answer_fits, coordinator_sends, is_cause, is_one_of, is_only, line_fits, places_fit, sending_site, sites_rise}
-use Rattle.commit_laws.proofs.Links.{IsNext as NextIs, linked, linked-here}
-use Rattle.commit_laws.proofs.Trips.{HasCalls}
-use Rattle.federation_laws.proofs.Declared.{declared-in}
+use Rattle.commit_laws.proofs.ForCallers.{HasCalls, IsNext as NextIs, linked, linked-here}
+use Rattle.federation_laws.proofs.ForCallers.{declared-in}
 use Rattle.line_laws.specs.Lines.{IsHeard, RightLinesFit}
 use Rattle.line_laws.specs.Resumed.{IsRightIn}
 use Rattle.line_laws.proofs.CoordLines.{CoordGood, sent_number}

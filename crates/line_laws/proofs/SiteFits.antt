@@ -10,8 +10,7 @@ use Rattle.mdb_base.specs.declared.replies.Reply.{Reply}
 use Rattle.mdb_base.specs.declared.replies.Reply.TheVariants as Reply_is
 use Rattle.mdb_base.specs.declared.replies.Why.{Why}
 use Rattle.mdb_base.specs.declared.replies.Why.TheVariants as Because
-use Rattle.mdb_base.proofs.BoolLaws.{when_either}
-use Rattle.mdb_base.proofs.OptionLaws.{by_given}
+use Rattle.mdb_base.proofs.ForCallers.{by_given, when_either}
 use Rattle.presumptions.specs.declared.Decision.{Decision}
 use Rattle.fed_rules.specs.declared.answers.Answer.TheVariants as Say
 use Rattle.fed_rules.specs.declared.commands.Command.{Command}
@@ -24,7 +23,7 @@ use Rattle.fed_rules.specs.Runs.{Begins, EngineLine, Run, begun}
 use Rattle.fed_rules.specs.Site.{act_answer, answered, did, first_work, next_number, next_take, next_work, of_abort, of_act, of_ask, of_back, of_begin, of_check, of_commit, of_decide, of_drop, of_fate, of_give, of_prepare, of_take, of_work, prepare_live, refusal_answer, repeated, reply_to, seals_global, seals_local, settles, site_line, take_live, unheld, unknown, unless_tripped, votes_again, votes_no, votes_yes, work_live}
 use Rattle.fed_rules.specs.SitePast.{SiteHappening, SitePast, attempts_of, disk, engine_lines, epoch_start, trip}
 use Rattle.fed_rules.specs.SiteRecords.{Held, Home, site_frame}
-use Rattle.commit_laws.proofs.Trips.{HasCalls, uncalled}
+use Rattle.commit_laws.proofs.ForCallers.{HasCalls, uncalled}
 use Rattle.line_text.specs.Fits.{answer_fits, is_commit_answer, is_only, is_step_answer, sending_site}
 use Rattle.line_laws.proofs.SiteReplies.{IsOperation, SealsSo, access_operation, kept_operation, seal_refuses, ticket_operation}
 

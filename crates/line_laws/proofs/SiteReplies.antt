@@ -6,11 +6,11 @@ use Rattle.mdb_base.specs.declared.names.Engine.{Engine}
 use Rattle.mdb_base.specs.declared.replies.Reply.{Reply}
 use Rattle.mdb_base.specs.declared.replies.Reply.TheVariants as Reply_is
 use Rattle.mdb_base.specs.declared.replies.Why.{Why}
-use Rattle.mdb_base.proofs.ListLaws.{each_all}
+use Rattle.mdb_base.proofs.ForCallers.{each_all}
 use Rattle.fed_rules.specs.Replies.{Rule, access_reply, granted_by, or_reply, rule, seal_stop, ticket_reply}
 use Rattle.fed_rules.specs.Runs.{Access, Got, Wrote, EngineLine, Run, Start, aborted, committed, published, unended}
 use Rattle.fed_rules.specs.Site.{kept_reply_of}
-use Rattle.engine_laws.proofs.StopReplies.{IfSome, OfRuns, SaysOf, access_says, seal_says, ticket_says}
+use Rattle.engine_laws.proofs.ForCallers.{IfSome, OfRuns, SaysOf, access_says, seal_says, ticket_says}
 use Rattle.line_text.specs.Fits.{is_no, is_reply}
 
 abbrev pub IsOperation : Reply → Type 0

@@ -5,14 +5,14 @@ use Rattle.std.proofs.Math.Nat.{eq-or-lt_of_le}
 use Rattle.mdb_base.specs.declared.names.SiteId.{SiteId}
 use Rattle.mdb_base.specs.Names.{same_site}
 use Rattle.mdb_base.specs.Words.{Each, found, inserted, some_of, those, with_some}
-use Rattle.mdb_base.proofs.NameLaws.{same_site-refl}
+use Rattle.mdb_base.proofs.ForCallers.{same_site-refl}
 use Rattle.presumptions.specs.declared.Participant.{Participant}
 use Rattle.fed_rules.specs.declared.commands.Place.{Place}
 use Rattle.fed_rules.specs.declared.scenario.SiteLine.{SiteLine}
 use Rattle.fed_rules.specs.Plans.{all_differ, one_site}
 use Rattle.fed_rules.specs.Scenarios.{protocols_in}
 use Rattle.line_text.specs.Fits.{sites_rise}
-use Rattle.commit_laws.proofs.Declared.{by_site}
+use Rattle.commit_laws.proofs.ForCallers.{by_site}
 
 -- each item's number is less than those of all behind it
 abbrev pub Sorted : {A : Type 0} → (A → ℕ) → List A → Type 0

@@ -6,7 +6,7 @@ use Rattle.mdb_base.specs.declared.names.Tid.{Tid}
 use Rattle.mdb_base.specs.declared.names.Tx.{Tx}
 use Rattle.mdb_base.specs.Words.{Each}
 use Rattle.order_laws.specs.Chains.{In}
-use Rattle.order_laws.proofs.Lists.{among_is, among_map, each_from}
+use Rattle.order_laws.proofs.ForCallers.{among_is, among_map, each_from}
 use Rattle.presumptions.specs.declared.Participant.{Participant}
 use Rattle.fed_rules.specs.declared.commands.Command.{Command}
 use Rattle.fed_rules.specs.declared.scenario.Scenario.{Scenario}
@@ -18,9 +18,8 @@ use Rattle.fed_rules.specs.Sessions.{Session, fresh}
 use Rattle.fed_rules.specs.SitePast.{trip}
 use Rattle.fed_rules.specs.SiteRecords.{Home}
 use Rattle.fed_rules.specs.Story.{coord_past, past_of, sent_from, story_in}
-use Rattle.commit_laws.proofs.FoundSessions.{CoordinatorFits, fresh_fits}
-use Rattle.commit_laws.proofs.Trips.{HasCalls}
-use Rattle.federation_laws.proofs.ScenarioFacts.{global-declared, global_program-is, program_fits}
+use Rattle.commit_laws.proofs.ForCallers.{CoordinatorFits, HasCalls, fresh_fits}
+use Rattle.federation_laws.proofs.ForCallers.{global-declared, global_program-is, program_fits}
 use Rattle.line_laws.proofs.Outstanding.{IsMember, Ready, visits_own}
 
 -- ---- where sites are declared

@@ -2,7 +2,7 @@
 use Rattle.std.proofs.Common.{◌≡◌, ℕ, ◌<◌, ◌==◌, ◌-◌, Bool, true, false, cond, ◌++◌, nat_le, Option, Some, None, List, [], ◌∷◌, length, take, refl, sym, ap, subst, ◌∙◌, arith}
 use Rattle.std.proofs.lemmas.Bool.{leb-false}
 use Rattle.mdb_base.specs.Words.{when}
-use Rattle.mdb_base.proofs.NumberLaws.{positive}
+use Rattle.mdb_base.proofs.ForCallers.{positive}
 use Rattle.presumptions.specs.declared.Participant.{Participant}
 use Rattle.fed_rules.specs.declared.answers.Answer.{Answer}
 use Rattle.fed_rules.specs.declared.answers.Answer.TheVariants as Say
@@ -21,7 +21,7 @@ use Rattle.fed_rules.specs.Policies.{Policy}
 use Rattle.fed_rules.specs.Site.{answered, of_back, site_line}
 use Rattle.fed_rules.specs.SitePast.{SitePast, disk, trip, trip_of}
 use Rattle.fed_rules.specs.SiteRecords.{Home, site_frame}
-use Rattle.commit_laws.proofs.Trips.{HasCalls}
+use Rattle.commit_laws.proofs.ForCallers.{HasCalls}
 
 -- ---- a line of any actor
 

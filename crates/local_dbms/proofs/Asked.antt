@@ -6,7 +6,7 @@ use Rattle.mdb_base.specs.declared.names.Tid.{Tid}
 use Rattle.mdb_base.specs.declared.names.Tx.{Tx}
 use Rattle.mdb_base.specs.Programs.{plain_act}
 use Rattle.mdb_base.specs.Words.{given, item_at, map_some, when}
-use Rattle.mdb_base.proofs.Words.{item_at-past, item_at-slice_get}
+use Rattle.mdb_base.proofs.ForCallers.{item_at-past, item_at-slice_get}
 use Rattle.fed_rules.specs.declared.answers.Answer.TheVariants as Say
 use Rattle.fed_rules.specs.declared.events.SiteEvent.{SiteEvent}
 use Rattle.fed_rules.specs.declared.events.SiteEvent.TheVariants as Ev
@@ -22,8 +22,7 @@ use Rattle.actor_store.specs.Store.{Passes}
 use Rattle.site_book.specs.Noted.{Noted, noted_of}
 use Rattle.site_core.specs.declared.site.SiteCore.{SiteCore}
 use Rattle.site_core.specs.Stands.{Holds}
-use Rattle.site_core.proofs.LineLaws.{begin_begun, begin_committed, begin_quiet, begin_running, begin_up}
-use Rattle.site_core.proofs.RememberLaws.{passes_is, trip_left}
+use Rattle.site_core.proofs.ForCallers.{begin_begun, begin_committed, begin_quiet, begin_running, begin_up, passes_is, trip_left}
 
 -- one that is no transaction of the site's own
 pub none_request : (verb : Verb.Verb) (home : Home) (program : Option (List Step)) (past : SitePast) (tx : Tx) → program ≡ None → own_request verb home program past tx ≡ Declines Say.None

@@ -2,7 +2,7 @@
 use Rattle.std.proofs.Common.{◌≡◌, ℕ, suc, ◌+◌, ◌≤◌, ◌<◌, ◌^◌, ◌||◌, Bool, true, false, cond, Option, Some, None, List, [], ◌∷◌, ◌++◌, length, map, refl, sym, subst, arith, inl, inr}
 use Rattle.mdb_base.specs.declared.names.Tid.{Tid}
 use Rattle.mdb_base.specs.Words.{Each}
-use Rattle.mdb_base.proofs.ListLaws.{each_map}
+use Rattle.mdb_base.proofs.ForCallers.{each_map}
 use Rattle.fed_rules.specs.declared.events.SiteEvent.{SiteEvent}
 use Rattle.fed_rules.specs.declared.records.SiteRecord.{SiteRecord}
 use Rattle.fed_rules.specs.declared.records.SiteRecord.TheVariants as Rec
@@ -18,16 +18,11 @@ use Rattle.fed_rules.specs.SiteSums.{carried}
 use Rattle.fed_rules.specs.Usable as Found
 use Rattle.fed_rules.specs.Usable.{IsHeldBelow, home_of_first}
 use Rattle.fed_rules.specs.SiteRecords.{Held, Home, epoch_of, last_number, last_ticket, site_frame, start_of}
-use Rattle.engine_laws.proofs.Counted.{counted}
-use Rattle.site_history.proofs.Starts.{each_after}
-use Rattle.site_history.proofs.OpenedPasts.{opened_is}
-use Rattle.site_history.proofs.OpenedSites.{torn_short}
-use Rattle.site_history.proofs.OpenedSums.{all_read}
-use Rattle.site_history.proofs.ReadSums.{below, beside, foundation, in_parts}
+use Rattle.engine_laws.proofs.ForCallers.{counted, counter_lines, drawn_next, draws, ticketed}
+use Rattle.site_history.proofs.ForCallers.{all_read, below, beside, each_after, foundation, in_parts, opened_is, torn_short}
 use Rattle.site_core.specs.Made.{IsGoingOn, IsOpened}
 use Rattle.site_core.specs.Steps.{EpochFits, NumberFits}
-use Rattle.site_core.proofs.MadeLaws.{lawful, made_right, made_starts}
-use Rattle.engine_laws.proofs.Numbers.{counter_lines, drawn_next, draws, ticketed}
+use Rattle.site_core.proofs.ForCallers.{lawful, made_right, made_starts}
 use Rattle.local_dbms.proofs.Small.{IsBelow, IsSmall, small_line}
 
 -- what records below a bound say is at most the bound

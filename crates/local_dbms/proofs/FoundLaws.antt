@@ -7,9 +7,7 @@ use Rattle.mdb_base.specs.declared.names.Tid.{Tid}
 use Rattle.mdb_base.specs.declared.names.Tx.{Tx}
 use Rattle.mdb_base.specs.Names.{same_tx}
 use Rattle.mdb_base.specs.Words.{some_of}
-use Rattle.mdb_base.proofs.BoolLaws.{or_false}
-use Rattle.mdb_base.proofs.NameLaws.{same_tx-equal}
-use Rattle.mdb_base.proofs.TestLaws.{some_reverse}
+use Rattle.mdb_base.proofs.ForCallers.{or_false, same_tx-equal, some_reverse}
 use Rattle.fed_rules.specs.declared.records.SiteRecord.{SiteRecord}
 use Rattle.fed_rules.specs.declared.records.SiteRecord.TheVariants as Rec
 use Rattle.fed_rules.specs.Found.{Journal}
@@ -19,7 +17,7 @@ use Rattle.fed_rules.specs.SiteRecords.{Held}
 use Rattle.field_bytes.specs.Fields.{IsTid}
 use Rattle.site_journal.specs.Spelling.{IsRecord}
 use Rattle.site_core.specs.Made.{is_of_local, was_local}
-use Rattle.site_core.proofs.ToldApart.{came_append}
+use Rattle.site_core.proofs.ForCallers.{came_append}
 use Rattle.local_dbms.specs.Found.{found_programs, has_local, made_up}
 use Rattle.local_dbms.proofs.OpenedOwned.{AreFound}
 

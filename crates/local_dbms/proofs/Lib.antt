@@ -1,10 +1,11 @@
-pub mod Asked
-pub mod Asking
-pub mod Bounds
-pub mod Fit
-pub mod FoundLaws
-pub mod Lines
-pub mod OpenedOwned
-pub mod Owned
-pub mod Quiet
-pub mod Small
+pub mod ForCallers
+mod Asked
+mod Asking
+mod Bounds
+mod Fit
+mod FoundLaws
+mod Lines
+mod OpenedOwned
+mod Owned
+mod Quiet
+mod Small

@@ -5,7 +5,7 @@ use Rattle.mdb_base.specs.declared.names.SiteId.{SiteId}
 use Rattle.mdb_base.specs.declared.names.Tx.{Tx}
 use Rattle.mdb_base.specs.Names.{same_tx}
 use Rattle.mdb_base.specs.Words.{Each, first_where}
-use Rattle.mdb_base.proofs.NameLaws.{same_tx-equal}
+use Rattle.mdb_base.proofs.ForCallers.{same_tx-equal}
 use Rattle.fed_rules.specs.declared.scenario.TxLine.{TxLine}
 use Rattle.local_dbms.specs.Stands.{AreOwn, IsNamed, noted, own_programs, program_at, program_in}
 

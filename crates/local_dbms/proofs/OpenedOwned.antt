@@ -7,7 +7,7 @@ use Rattle.mdb_base.specs.declared.acts.Step.{Step}
 use Rattle.mdb_base.specs.declared.names.Tid.{Tid}
 use Rattle.mdb_base.specs.declared.names.Tx.{Tx}
 use Rattle.mdb_base.specs.Words.{Each}
-use Rattle.mdb_base.proofs.NameLaws.{same_tx-refl}
+use Rattle.mdb_base.proofs.ForCallers.{same_tx-refl}
 use Rattle.fed_rules.specs.declared.events.SiteEvent.{SiteEvent}
 use Rattle.fed_rules.specs.declared.events.SiteEvent.TheVariants as Ev
 use Rattle.fed_rules.specs.declared.records.SiteRecord.{SiteRecord}
@@ -18,8 +18,7 @@ use Rattle.fed_rules.specs.Reopened.{all_named, opened_site, owner_named, site_n
 use Rattle.fed_rules.specs.SitePast.{SitePast}
 use Rattle.fed_rules.specs.SiteRecords.{Held, Home, doubtful_size, owner_size, site_frame}
 use Rattle.site_core.specs.Made.{IsOpened, about, is_of_global, is_of_local, was_global, was_local}
-use Rattle.site_core.proofs.MadeLaws.{opened_apart}
-use Rattle.site_core.proofs.NamedLines.{each_named}
+use Rattle.site_core.proofs.ForCallers.{each_named, opened_apart}
 use Rattle.local_dbms.specs.Stands.{FitsPrograms, IsOwned, OwnPrograms}
 
 -- there are programs of exactly the transactions that lines of the past name as local

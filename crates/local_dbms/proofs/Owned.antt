@@ -4,7 +4,7 @@ use Rattle.std.proofs.lemmas.Bool.{cond-true, cond-false, or_cases, or_from}
 use Rattle.mdb_base.specs.declared.names.Tid.{Tid}
 use Rattle.mdb_base.specs.declared.names.Tx.{Tx}
 use Rattle.mdb_base.specs.Names.{same_tx}
-use Rattle.mdb_base.proofs.NameLaws.{same_tid-equal, same_tx-equal, same_tx-refl}
+use Rattle.mdb_base.proofs.ForCallers.{same_tid-equal, same_tx-equal, same_tx-refl}
 use Rattle.fed_rules.specs.declared.answers.Answer.{Answer}
 use Rattle.fed_rules.specs.declared.answers.Answer.TheVariants as Say
 use Rattle.fed_rules.specs.declared.events.SiteEvent.{SiteEvent}
@@ -12,12 +12,10 @@ use Rattle.fed_rules.specs.declared.events.SiteEvent.TheVariants as Ev
 use Rattle.fed_rules.specs.Requests.{attempt}
 use Rattle.fed_rules.specs.SitePast.{SiteHappening, SitePast, attempts_of, begins_tx}
 use Rattle.fed_rules.specs.SiteRecords.{Home}
-use Rattle.rules_laws.proofs.SitePasts.{attempts_grow}
+use Rattle.rules_laws.proofs.ForCallers.{attempts_grow}
 use Rattle.site_core.specs.Made.{IsGoingOn, IsNextLine, about, begins_tid, is_of_global, is_of_local, was_begun, was_global, was_local}
 use Rattle.site_core.specs.Stands.{Before, StopAt, Within, behind, stopped_past}
-use Rattle.site_core.proofs.BegunLaws.{none_opened, unbegun_opened}
-use Rattle.site_core.proofs.RuleWalks.{line_event}
-use Rattle.site_core.proofs.StopLaws.{trip_is, trip_line}
+use Rattle.site_core.proofs.ForCallers.{line_event, none_opened, trip_is, trip_line, unbegun_opened}
 use Rattle.local_dbms.specs.Stands.{FitsPrograms, IsOwned, OwnPrograms}
 use Rattle.local_dbms.proofs.Bounds.{epoch_bound, made_small, number_bound}
 use Rattle.local_dbms.proofs.Small.{IsBegunBy, IsSmall}

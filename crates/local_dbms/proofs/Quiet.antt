@@ -11,9 +11,9 @@ use Rattle.fed_rules.specs.SiteCommands.{Verb, Begin, Step_on, Commit, Abort, Fa
 use Rattle.fed_rules.specs.SitePast.{SitePast}
 use Rattle.fed_rules.specs.SiteRecords.{Home}
 use Rattle.rules_laws.specs.Lines.{Asks}
-use Rattle.rules_laws.proofs.SiteRequests.{asks}
+use Rattle.rules_laws.proofs.ForCallers.{asks}
 use Rattle.world_laws.specs.Messages.{MaySend}
-use Rattle.world_laws.proofs.SiteSays.{own_events_silent}
+use Rattle.world_laws.proofs.ForCallers.{own_events_silent}
 use Rattle.local_dbms.specs.declared.asks.SiteAsk.{SiteAsk}
 use Rattle.local_dbms.specs.declared.asks.SiteAsk.TheVariants as At
 use Rattle.local_dbms.specs.Asks.{can_send, site_request}

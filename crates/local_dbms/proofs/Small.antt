@@ -6,7 +6,7 @@ use Rattle.mdb_base.specs.declared.acts.PlainAct.{PlainAct}
 use Rattle.mdb_base.specs.declared.names.Tid.{Tid}
 use Rattle.mdb_base.specs.declared.names.Tx.{Tx}
 use Rattle.mdb_base.specs.Words.{given, when}
-use Rattle.mdb_base.proofs.NameLaws.{same_tx-refl}
+use Rattle.mdb_base.proofs.ForCallers.{same_tx-refl}
 use Rattle.presumptions.specs.declared.Decision.{Decision}
 use Rattle.presumptions.specs.declared.Decision.TheVariants as Decided
 use Rattle.presumptions.specs.Table.{forces}
@@ -25,11 +25,9 @@ use Rattle.fed_rules.specs.Site as Site
 use Rattle.fed_rules.specs.Site.{act_answer, answered, ended_calls, number_of, of_abort, of_act, of_ask, of_back, of_begin, of_check, of_commit, of_decide, of_drop, of_fate, of_give, of_prepare, of_take, of_work, refusal_answer, reply_to, site_line, unless_tripped}
 use Rattle.fed_rules.specs.SitePast.{SiteHappening, SitePast, attempts_of, begins_tx, disk, epoch, live, trip}
 use Rattle.fed_rules.specs.SiteRecords.{Home, site_frame}
-use Rattle.site_history.proofs.Starts.{EachAppend, append_take}
-use Rattle.site_core.proofs.RuleWalks.{by_given, by_when}
-use Rattle.site_core.proofs.UpLaws.{act_answers, refusal_plain}
-use Rattle.engine_laws.proofs.Numbers.{draws}
-use Rattle.engine_laws.proofs.Keeps.{settling}
+use Rattle.site_history.proofs.ForCallers.{EachAppend, append_take}
+use Rattle.site_core.proofs.ForCallers.{act_answers, by_given, by_when, refusal_plain}
+use Rattle.engine_laws.proofs.ForCallers.{draws, settling}
 
 -- the numbers of a record are at most the first of these, and an epoch is at most the second
 abbrev pub IsBelow : ℕ → ℕ → SiteRecord → Type 0

@@ -5,11 +5,7 @@ use Rattle.std.specs.List.Sorted.{IsPartitionedBy}
 use Rattle.std.proofs.lemmas.Bool.{cond-false, eqb-true, eq-eqb, ltb-true, ltb-false, lt-ltb, le-ltb}
 use Rattle.mdb_base.specs.declared.names.Tid.{Tid}
 use Rattle.mdb_base.specs.Words.{Each, inserted, item_at, or_else}
-use Rattle.mdb_base.proofs.EachLaws.{each_get_or}
-use Rattle.mdb_base.proofs.ListLaws.{each_map, each_filtered, each_inserted, those_all}
-use Rattle.mdb_base.proofs.NumberLaws.{not_equal}
-use Rattle.mdb_base.proofs.RowLaws.{nat_eq-sym}
-use Rattle.mdb_base.proofs.Words.{item_at-past}
+use Rattle.mdb_base.proofs.ForCallers.{each_filtered, each_get_or, each_inserted, each_map, item_at-past, nat_eq-sym, not_equal, those_all}
 use Rattle.run_book.specs.declared.rival.Rival.{Rival}
 use Rattle.locking_engine.specs.ByAge.{IsByAge, count_older, of_age, first_other, is_older, with_run, without_age}
 

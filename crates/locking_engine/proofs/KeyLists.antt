@@ -10,7 +10,7 @@ use Rattle.std.proofs.lemmas.Option.{same_Some}
 use Rattle.mdb_base.specs.declared.names.Key.{Key}
 use Rattle.mdb_base.specs.declared.names.Tid.{Tid}
 use Rattle.mdb_base.specs.Words.{or_else}
-use Rattle.mdb_base.proofs.RowLaws.{nat_eq-sym}
+use Rattle.mdb_base.proofs.ForCallers.{nat_eq-sym}
 use Rattle.run_book.specs.declared.rival.Rival.{Rival}
 use Rattle.locking_engine.specs.ByAge.{IsByAge, of_age, first_other, with_run, without_age}
 use Rattle.locking_engine.specs.Holders.{Holders, place_of, held_by, IsOldestOther}

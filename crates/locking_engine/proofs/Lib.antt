@@ -1,9 +1,9 @@
-pub mod ByAge
-pub mod Holding
-pub mod KeyLists
-pub mod Lines
-pub mod Numbers
-pub mod Places
-pub mod Restored
-pub mod Touched
-pub mod Way
+mod ByAge
+mod Holding
+mod KeyLists
+mod Lines
+mod Numbers
+mod Places
+mod Restored
+mod Touched
+mod Way

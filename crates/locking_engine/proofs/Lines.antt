@@ -7,23 +7,19 @@ use Rattle.mdb_base.specs.declared.names.Tid.{Tid}
 use Rattle.mdb_base.specs.declared.acts.PlainAct.TheVariants.{Read, Write}
 use Rattle.mdb_base.specs.declared.replies.Reply.TheVariants.{Done, Value, Ticket, Wait, Refused, Unknown}
 use Rattle.mdb_base.specs.Names.{same_tid, same_key}
-use Rattle.mdb_base.proofs.NameLaws.{same_tid-equal}
+use Rattle.mdb_base.proofs.ForCallers.{same_tid-equal}
 use Rattle.mdb_base.specs.Words.{some_of}
 use Rattle.fed_rules.specs.Runs.{Start, EngineLine, Begins, Acts, Takes, Seals, Refuses, Commits, Aborts, Access, Got, Wrote, Run, tid_of, begun, changed, gives_up, run_at}
 use Rattle.fed_rules.specs.Replies.{access_key, reads, writes, has_read, has_written}
 use Rattle.fed_rules.specs.EngineLines.{IsRightLine}
-use Rattle.engine_laws.proofs.LockingTickets.{locking_one_taker}
-use Rattle.engine_laws.proofs.Takers.{IsTaker, HasOneTaker}
-use Rattle.fed_rules.proofs.RunLines.{run_at_other, run_at_own}
+use Rattle.engine_laws.proofs.ForCallers.{HasOneTaker, IsTaker, locking_one_taker}
+use Rattle.fed_rules.proofs.ForCallers.{run_at_other, run_at_own}
 use Rattle.run_book.specs.declared.rival.Rival.{Rival}
 use Rattle.run_book.specs.Held.{Held, held_in}
 use Rattle.run_book.specs.Book.{grants, drops}
 use Rattle.run_book.specs.Keeps.{KeepsRoomy}
 use Rattle.run_book.specs.Rivals.{IsOldest}
-use Rattle.run_book.proofs.Ages.{ages-differ}
-use Rattle.run_book.proofs.Calls.{run_at-held}
-use Rattle.run_book.proofs.Carried.{calls_well}
-use Rattle.run_book.proofs.Ends.{called_ends}
+use Rattle.run_book.proofs.ForCallers.{ages-differ, called_ends, calls_well, run_at-held}
 use Rattle.locking_engine.specs.declared.engine.LockingEngine.{LockingEngine}
 use Rattle.locking_engine.specs.Holders.{Holders, place_of, held_by}
 use Rattle.locking_engine.specs.Stands.{AreHolders, Stands, IsReleased, EndsRun, takes_ticket}

@@ -14,23 +14,20 @@ use Rattle.mdb_base.specs.declared.replies.Reply.TheVariants.{Value, Ticket, Wai
 use Rattle.mdb_base.specs.declared.replies.Why.TheVariants.{Die}
 use Rattle.mdb_base.specs.Names.{same_tid}
 use Rattle.mdb_base.specs.Rising.{IsRising}
-use Rattle.mdb_base.proofs.NameLaws.{same_tid-equal}
+use Rattle.mdb_base.proofs.ForCallers.{same_tid-equal}
 use Rattle.fed_rules.specs.declared.runs.Kept.{Kept}
 use Rattle.fed_rules.specs.Runs.{Start, EngineLine, Begins, Acts, Takes, Seals, Run, begun, run_at, has_ticket, is_sealed, counter, published, after}
 use Rattle.fed_rules.specs.Replies.{has_read, has_written, seal_stop, seal_number, granted, granted_by, rule, or_reply}
 use Rattle.fed_rules.specs.EngineLines.{IsRightLine, IsFree, IsStart}
 use Rattle.engine_contract.specs.Calls.{start_from}
-use Rattle.engine_laws.proofs.LockingTickets.{locking_one_taker}
-use Rattle.engine_laws.proofs.Takers.{HasOneTaker}
-use Rattle.fed_rules.proofs.RunLines.{run_at_other, run_at_own}
+use Rattle.engine_laws.proofs.ForCallers.{HasOneTaker, locking_one_taker}
+use Rattle.fed_rules.proofs.ForCallers.{run_at_other, run_at_own}
 use Rattle.run_book.specs.declared.counters.Counters.{Counters}
 use Rattle.run_book.specs.declared.rival.Rival.{Rival}
 use Rattle.run_book.specs.Held.{Held, held_in}
 use Rattle.run_book.specs.Book.{started, begins, unbegins, tickets, seals, unseals, table_in, taken_by}
 use Rattle.run_book.specs.Rivals.{IsOldest}
-use Rattle.run_book.proofs.Calls.{run_at-held}
-use Rattle.run_book.proofs.Carried.{starts_well, calls_well, unbegins_well, unseals_well}
-use Rattle.run_book.proofs.Tables.{after-table}
+use Rattle.run_book.proofs.ForCallers.{after-table, calls_well, run_at-held, starts_well, unbegins_well, unseals_well}
 use Rattle.locking_engine.specs.declared.engine.LockingEngine.{LockingEngine}
 use Rattle.locking_engine.specs.Holders.{Holders, IsStop, with_restored}
 use Rattle.locking_engine.specs.Rule.{stop_by}

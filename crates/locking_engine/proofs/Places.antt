@@ -9,7 +9,7 @@ use Rattle.std.proofs.lemmas.Bool.{cond-false, eqb-true, and_parts}
 use Rattle.std.proofs.lemmas.Cmp.{on_total, then_total}
 use Rattle.std.proofs.lemmas.Map.Lookups.{CmpEqualImpliesEq, exact_pairs, exact_unsigned}
 use Rattle.mdb_base.specs.declared.names.Tid.{Tid}
-use Rattle.mdb_base.proofs.NumberLaws.{is_eq-nat_cmp, is_eq-then}
+use Rattle.mdb_base.proofs.ForCallers.{is_eq-nat_cmp, is_eq-then}
 use Rattle.locking_engine.specs.Places.{Place}
 use Rattle.locking_engine.specs.Holders.{Holders, place_cmp, held_by}
 

@@ -7,13 +7,12 @@ use Rattle.mdb_base.specs.declared.names.Tid.{Tid}
 use Rattle.mdb_base.specs.declared.rows.Put.{Put}
 use Rattle.mdb_base.specs.Names.{same_tid, same_key}
 use Rattle.mdb_base.specs.Words.{Each}
-use Rattle.mdb_base.proofs.NameLaws.{same_tid-equal, same_tid-refl}
+use Rattle.mdb_base.proofs.ForCallers.{same_tid-equal, same_tid-refl}
 use Rattle.fed_rules.specs.declared.runs.Kept.{Kept}
 use Rattle.fed_rules.specs.Runs.{Run, restored, restored_at, has_ticket, is_sealed}
 use Rattle.fed_rules.specs.Replies.{has_written, has_read}
 use Rattle.fed_rules.specs.EngineLines.{AreApart, AllApart, has_row}
-use Rattle.engine_laws.proofs.Conflicts.{written_rows, read_none}
-use Rattle.engine_laws.proofs.RunLines.{restored_one}
+use Rattle.engine_laws.proofs.ForCallers.{read_none, restored_one, written_rows}
 use Rattle.locking_engine.specs.Places.{Place}
 use Rattle.locking_engine.specs.Holders.{Holders, place_cmp, place_of, held_by, with_rows_held, with_restored}
 use Rattle.locking_engine.specs.Stands.{HasDone, AreHolders}

@@ -9,17 +9,15 @@ use Rattle.mdb_base.specs.declared.acts.PlainAct.{PlainAct}
 use Rattle.mdb_base.specs.declared.acts.PlainAct.TheVariants.{Read, Write}
 use Rattle.mdb_base.specs.declared.replies.Reply.{Reply}
 use Rattle.mdb_base.specs.Names.{same_tid}
-use Rattle.mdb_base.proofs.NameLaws.{same_tid-equal, same_tid-refl}
+use Rattle.mdb_base.proofs.ForCallers.{same_tid-equal, same_tid-refl}
 use Rattle.mdb_base.specs.Words.{map_some, those, least}
 use Rattle.fed_rules.specs.Runs.{Start, EngineLine, Run, run_at, unended, has_ticket, is_sealed}
 use Rattle.fed_rules.specs.Replies.{age_of, is_in_the_way, has_read, has_written, is_other, wait_die, access_stop, ticket_stop}
 use Rattle.fed_rules.specs.EngineLines.{IsStart, IsRight}
-use Rattle.engine_laws.proofs.Runs.{tid_is}
-use Rattle.engine_laws.proofs.Conflicts.{read_conflicts, write_conflicts}
+use Rattle.engine_laws.proofs.ForCallers.{read_conflicts, tid_is, write_conflicts}
 use Rattle.run_book.specs.declared.rival.Rival.{Rival}
 use Rattle.run_book.specs.Rivals.{rival_by, IsOldest, IsOldestRun}
-use Rattle.run_book.proofs.Ages.{ages-differ}
-use Rattle.run_book.proofs.Unended.{oldest-least}
+use Rattle.run_book.proofs.ForCallers.{ages-differ, oldest-least}
 use Rattle.locking_engine.specs.Holders.{Holders, IsOldestOther, IsFirstInTheWay, IsStop}
 use Rattle.locking_engine.specs.Rule.{stop_by, older_of_two}
 use Rattle.locking_engine.specs.Stands.{AreHolders, takes_ticket}

@@ -8,13 +8,10 @@ use Rattle.mdb_base.specs.declared.names.Tx.{Tx}
 use Rattle.mdb_base.specs.declared.acts.Step.{Step}
 use Rattle.mdb_base.specs.Names.{same_tid, same_tx}
 use Rattle.mdb_base.specs.Words.{map_some}
-use Rattle.mdb_base.proofs.NameLaws.{same_tid-refl}
-use Rattle.mdb_base.proofs.EachLaws.{among_append, among_behind, among_split}
-use Rattle.mdb_base.proofs.JoinLaws.{length-map}
+use Rattle.mdb_base.proofs.ForCallers.{among_append, among_behind, among_split, length-map, same_tid-refl}
 use Rattle.order_laws.specs.Chains.{Distinct, In}
 use Rattle.order_laws.specs.Tickets.{Ticketed}
-use Rattle.order_laws.proofs.Lists.{first_where_some}
-use Rattle.order_laws.proofs.InLaws.{distinct_joined, in_map}
+use Rattle.order_laws.proofs.ForCallers.{distinct_joined, first_where_some, in_map}
 use Rattle.fed_rules.specs.declared.commands.Command.{Command}
 use Rattle.fed_rules.specs.declared.records.CoordRecord.{CoordRecord}
 use Rattle.fed_rules.specs.declared.records.CoordRecord.TheVariants as Coord_record
@@ -33,21 +30,13 @@ use Rattle.fed_rules.specs.Scenarios.{global_line, global_program, home_at, home
 use Rattle.fed_rules.specs.SitePast.{records}
 use Rattle.fed_rules.specs.SiteRecords.{Home, local_of}
 use Rattle.fed_rules.specs.Story.{Story, coord_past, past_of, story_of}
-use Rattle.coord_laws.proofs.RecordLists.{commit_among}
-use Rattle.coord_laws.proofs.Sound.{commit_mark}
-use Rattle.commit_laws.proofs.Agreed.{begun_global, coord-sound}
-use Rattle.commit_laws.proofs.Links.{home-again, its-site}
-use Rattle.commit_laws.proofs.PreparedLaws.{nowhere}
+use Rattle.coord_laws.proofs.ForCallers.{commit_among, commit_mark}
+use Rattle.commit_laws.proofs.ForCallers.{begun_global, coord-sound, home-again, its-site, nowhere}
 use Rattle.site_history.specs.Records.{BindOnce, IsBound}
 use Rattle.site_history.specs.Stories.{OfSites}
 use Rattle.site_history.specs.SiteOrders.{IsSerialPast}
-use Rattle.federation_laws.proofs.CommitOnce.{commits-once}
-use Rattle.federation_laws.proofs.LocalStories.{local-record}
-use Rattle.federation_laws.proofs.Members.{IsLocal}
-use Rattle.federation_laws.proofs.ScenarioFacts.{global_program-is}
-use Rattle.federation_laws.proofs.Told.{local_home-declared}
-use Rattle.federation_laws.proofs.Declared.{declared-in}
-use Rattle.closing_laws.proofs.Lengths.{distinct_in_others, numbers_differ}
+use Rattle.federation_laws.proofs.ForCallers.{IsLocal, commits-once, declared-in, global_program-is, local-record, local_home-declared}
+use Rattle.closing_laws.proofs.ForCallers.{distinct_in_others, numbers_differ}
 use Rattle.report_text.specs.Summaries.{is_global_commit, is_local_commit}
 use Rattle.made_laws.specs.Counted.{AreDone, CommitsAreCounted, kept_commits}
 use Rattle.made_laws.proofs.SiteLists.{sites_distinct}

@@ -1,6 +1,6 @@
 -- What ends a session asks for no Checkpoint.
 use Rattle.std.proofs.Common.{◌≡◌, true, false, refl, sym, subst}
-use Rattle.mdb_base.proofs.ListLaws.{append_each, each_map}
+use Rattle.mdb_base.proofs.ForCallers.{append_each, each_map}
 use Rattle.fed_rules.specs.declared.commands.Command.{Command}
 use Rattle.fed_rules.specs.declared.commands.Command.TheVariants as Cmd
 use Rattle.fed_rules.specs.Closing.{closed}

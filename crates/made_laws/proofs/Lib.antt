@@ -1,10 +1,10 @@
-pub mod Worth
-pub mod RowTotals
-pub mod SiteLists
+mod Worth
+mod RowTotals
+mod SiteLists
 mod MadeRows
 mod MadePrograms
 mod MadeTotal
-pub mod Counts
+mod Counts
 mod MadeSummary
 mod Trimless
 mod SitesTrimNothing

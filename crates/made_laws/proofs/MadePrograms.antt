@@ -5,14 +5,14 @@ use Rattle.mdb_base.specs.declared.names.SiteId.{SiteId}
 use Rattle.mdb_base.specs.declared.names.Tx.{Tx}
 use Rattle.mdb_base.specs.Names.{same_tx}
 use Rattle.mdb_base.specs.Words.{Each, first_where}
-use Rattle.mdb_base.proofs.ListLaws.{append_each}
+use Rattle.mdb_base.proofs.ForCallers.{append_each}
 use Rattle.order_laws.specs.Chains.{In}
-use Rattle.order_laws.proofs.Lists.{each_at, first_where_some}
+use Rattle.order_laws.proofs.ForCallers.{each_at, first_where_some}
 use Rattle.fed_rules.specs.declared.scenario.TxLine.{TxLine}
 use Rattle.fed_rules.specs.Scenarios.{program_of, program_of_line}
 use Rattle.scenario_maker.specs.Draws.{drawn, so_far}
 use Rattle.scenario_maker.specs.Made.{behind_sites, behind_transactions, is_global, made, made_global, made_local, made_sites, made_transaction, made_transactions, transfer}
-use Rattle.scenario_maker.proofs.Sound.{declared, drawn_below}
+use Rattle.scenario_maker.proofs.ForCallers.{declared, drawn_below}
 use Rattle.made_laws.specs.Moves.{MovesAtMost}
 use Rattle.made_laws.proofs.SiteLists.{declared_there, sites_of}
 

@@ -4,8 +4,7 @@ use Rattle.std.proofs.lemmas.Bool.{eqb-false}
 use Rattle.std.specs.Prelude.{◌==◌}
 use Rattle.mdb_base.specs.declared.names.SiteId.{SiteId}
 use Rattle.mdb_base.specs.Words.{Each, how_many}
-use Rattle.mdb_base.proofs.ListLaws.{append_each, each_map}
-use Rattle.mdb_base.proofs.TestLaws.{how_many_joined}
+use Rattle.mdb_base.proofs.ForCallers.{append_each, each_map, how_many_joined}
 use Rattle.order_laws.specs.Chains.{In}
 use Rattle.fed_rules.specs.declared.scenario.ItemLine.{ItemLine}
 use Rattle.fed_rules.specs.declared.scenario.SiteLine.{SiteLine}

@@ -5,7 +5,7 @@ use Rattle.std.proofs.lemmas.List.Sums.{sum_by_push}
 use Rattle.std.specs.Prelude.{◌==◌, count_by, nat_le}
 use Rattle.fed_rules.specs.declared.scenario.TxLine.{TxLine}
 use Rattle.scenario_maker.specs.Made.{behind_sites, behind_transactions, is_global, made, made_global, made_local, made_transaction, made_transactions}
-use Rattle.scenario_maker.proofs.Sound.{made_is_scenario}
+use Rattle.scenario_maker.proofs.ForCallers.{made_is_scenario}
 use Rattle.made_laws.specs.Counted.{CommitsAreCounted, MadeSummariesAreFixed, made_globals}
 use Rattle.made_laws.specs.Moves.{MadeTotalsStay}
 use Rattle.made_laws.proofs.MadeRows.{made_many}

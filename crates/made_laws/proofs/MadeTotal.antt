@@ -11,7 +11,7 @@ use Rattle.mdb_base.specs.Names.{same_site}
 use Rattle.mdb_base.specs.Rising.{IsRising}
 use Rattle.mdb_base.specs.Rows.{Table, look_up}
 use Rattle.mdb_base.specs.Words.{Each}
-use Rattle.mdb_base.proofs.ListLaws.{each_map}
+use Rattle.mdb_base.proofs.ForCallers.{each_map}
 use Rattle.order_laws.specs.Chains.{In}
 use Rattle.fed_rules.specs.declared.commands.Command.{Command}
 use Rattle.fed_rules.specs.declared.scenario.ItemLine.{ItemLine}
@@ -26,11 +26,11 @@ use Rattle.fed_rules.specs.Serial.{Tables, serial_tables}
 use Rattle.fed_rules.specs.SitePast.{records}
 use Rattle.fed_rules.specs.SiteRecords.{Home, installs}
 use Rattle.fed_rules.specs.Story.{Story, past_of, story_of}
-use Rattle.engine_laws.proofs.Rows.{rising_items, rising_rows_after}
-use Rattle.site_history.proofs.DeclaredHomes.{home_rises}
+use Rattle.engine_laws.proofs.ForCallers.{rising_items, rising_rows_after}
+use Rattle.site_history.proofs.ForCallers.{home_rises}
 use Rattle.closing_laws.specs.AtRest.{IsAtRest}
 use Rattle.scenario_maker.specs.Made.{made, made_items, made_sites}
-use Rattle.scenario_maker.proofs.Sound.{made_is_scenario}
+use Rattle.scenario_maker.proofs.ForCallers.{made_is_scenario}
 use Rattle.report_text.specs.Summaries.{rows_total}
 use Rattle.made_laws.specs.Moves.{MadeTotalsStay, MovesAtMost, MovesKeepWorth, column, total_of, worth}
 use Rattle.made_laws.proofs.MadePrograms.{program_moves}

@@ -9,8 +9,7 @@ use Rattle.fed_rules.specs.declared.scenario.TxLine.{TxLine}
 use Rattle.fed_rules.specs.Closing.{is_done}
 use Rattle.fed_rules.specs.Plans.{IsScenario}
 use Rattle.fed_rules.specs.Story.{story_of}
-use Rattle.fed_rules.proofs.Opened.{opened}
-use Rattle.fed_rules.proofs.Spelled.{at, set, site, local, scenario_of, begin, step, commit}
+use Rattle.fed_rules.proofs.ForCallers.{at, begin, commit, local, opened, scenario_of, set, site, step}
 use Rattle.made_laws.specs.WrongRules.{ChangesWorth, MissesACommit, committed_at_first, transfer_twice}
 
 apart : at 2 ≡ at 1 → ⊥

@@ -10,8 +10,7 @@ use Rattle.mdb_base.specs.Names.{same_key, same_site}
 use Rattle.mdb_base.specs.Rising.{IsRising}
 use Rattle.mdb_base.specs.Rows.{look_up, with_row}
 use Rattle.mdb_base.specs.Words.{Each, how_many, some_of}
-use Rattle.mdb_base.proofs.NameLaws.{same_site-equal}
-use Rattle.mdb_base.proofs.RowLaws.{rising_tail, each_with_row}
+use Rattle.mdb_base.proofs.ForCallers.{each_with_row, rising_tail, same_site-equal}
 use Rattle.fed_rules.specs.declared.scenario.ItemLine.{ItemLine}
 use Rattle.fed_rules.specs.Plans.{all_differ, has_site, one_row}
 use Rattle.fed_rules.specs.Scenarios.{items_of}

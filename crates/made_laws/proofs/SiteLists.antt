@@ -6,7 +6,7 @@ use Rattle.mdb_base.specs.declared.names.Engine.TheVariants.{Locking}
 use Rattle.mdb_base.specs.declared.names.SiteId.{SiteId}
 use Rattle.mdb_base.specs.Names.{same_site}
 use Rattle.mdb_base.specs.Words.{inserted, some_of}
-use Rattle.mdb_base.proofs.NameLaws.{same_site-equal}
+use Rattle.mdb_base.proofs.ForCallers.{same_site-equal}
 use Rattle.presumptions.specs.declared.Participant.{Participant}
 use Rattle.order_laws.specs.Chains.{Distinct, In}
 use Rattle.fed_rules.specs.declared.scenario.ItemLine.{ItemLine}
@@ -14,7 +14,7 @@ use Rattle.fed_rules.specs.declared.scenario.SiteLine.{SiteLine}
 use Rattle.fed_rules.specs.Plans.{all_differ, is_declared, one_site}
 use Rattle.fed_rules.specs.Scenarios.{home_in, items_of, protocols_in}
 use Rattle.fed_rules.specs.SiteRecords.{Home}
-use Rattle.commit_laws.proofs.Declared.{by_site}
+use Rattle.commit_laws.proofs.ForCallers.{by_site}
 
 abbrev pub sites_of : List SiteLine → List SiteId
 sites_of lines = map (λ (p : Participant). p.site) (protocols_in lines)

@@ -1,7 +1,7 @@
 -- Calls of a disk that trim nothing, and lines that make only such.
 use Rattle.std.proofs.Common.{◌≡◌, ℕ, zero, suc, Bool, true, false, cond, Option, Some, None, List, [], ◌∷◌, ◌++◌, take, refl, ap, ◌∙◌, arith, le-leb}
 use Rattle.mdb_base.specs.Words.{Each, given}
-use Rattle.mdb_base.proofs.BoolLaws.{when_either}
+use Rattle.mdb_base.proofs.ForCallers.{when_either}
 use Rattle.fed_rules.specs.Disk as Disks
 use Rattle.fed_rules.specs.Disk.{Call, Append, CutBack, Disk, Stops, Sync, TrimFront, after_call, after_calls, bytes_of, is_torn}
 use Rattle.fed_rules.specs.Happenings.{Happening, Trip, stopped, tripped}

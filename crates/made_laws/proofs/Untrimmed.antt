@@ -10,7 +10,7 @@ use Rattle.mdb_base.specs.declared.replies.Reply.TheVariants as Reply_is
 use Rattle.mdb_base.specs.declared.replies.Why.TheVariants as Because
 use Rattle.mdb_base.specs.Names.{same_site}
 use Rattle.mdb_base.specs.Words.{when}
-use Rattle.mdb_base.proofs.BoolLaws.{when_either}
+use Rattle.mdb_base.proofs.ForCallers.{when_either}
 use Rattle.presumptions.specs.declared.Participant.{Participant}
 use Rattle.fed_rules.specs.declared.answers.Answer.{Answer}
 use Rattle.fed_rules.specs.declared.answers.Answer.TheVariants as Say
@@ -38,7 +38,7 @@ use Rattle.fed_rules.specs.SitePast.{SiteHappening, SitePast}
 use Rattle.fed_rules.specs.SiteRecords.{Home, site_frame}
 use Rattle.fed_rules.specs.Story.{Happened, AtCoordinator, AtSite, Nowhere, Story, coord_past, happens, past_of, story_of, with_coordinator, with_site}
 use Rattle.rules_laws.specs.Lines.{CoordCause, IsCoordLine, IsLine, IsSiteLine, SiteCause}
-use Rattle.rules_laws.proofs.Lines.{line_is}
+use Rattle.rules_laws.proofs.ForCallers.{line_is}
 use Rattle.made_laws.specs.Unchecked.{AreUnchecked, UncheckedJournalsAreWhole, is_check}
 use Rattle.made_laws.proofs.Trimless.{TrimsNothing, Trimless, by_given, by_trip, is_trim, trimmed_stays, whole_journal}
 use Rattle.made_laws.proofs.SitesTrimNothing.{IsSiteCheck, site_trims}

@@ -8,7 +8,7 @@ use Rattle.mdb_base.specs.declared.names.Key.{Key}
 use Rattle.mdb_base.specs.declared.names.SiteId.{SiteId}
 use Rattle.mdb_base.specs.Names.{same_site}
 use Rattle.mdb_base.specs.Rows.{Table}
-use Rattle.mdb_base.proofs.NameLaws.{same_site-equal}
+use Rattle.mdb_base.proofs.ForCallers.{same_site-equal}
 use Rattle.order_laws.specs.Chains.{Distinct, In}
 use Rattle.fed_rules.specs.Serial.{Tables, alone, update, update_at}
 use Rattle.scenario_maker.specs.Made.{transfer}

@@ -1,16 +1,17 @@
-pub mod BoolLaws
-pub mod Digits
-pub mod EachLaws
-pub mod JoinLaws
-pub mod ListLaws
-pub mod NameLaws
-pub mod NameOrders
-pub mod NumberLaws
-pub mod OptionLaws
-pub mod PlaceLaws
-pub mod Registers
-pub mod ResultLaws
-pub mod RisingLaws
-pub mod RowLaws
-pub mod TestLaws
-pub mod Words
+pub mod ForCallers
+mod BoolLaws
+mod Digits
+mod EachLaws
+mod JoinLaws
+mod ListLaws
+mod NameLaws
+mod NameOrders
+mod NumberLaws
+mod OptionLaws
+mod PlaceLaws
+mod Registers
+mod ResultLaws
+mod RisingLaws
+mod RowLaws
+mod TestLaws
+mod Words

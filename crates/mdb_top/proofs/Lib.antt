@@ -1,4 +1,5 @@
-pub mod Asking
+pub mod ForCallers
+mod Asking
 mod AuditLemmas
 mod InputLemmas
 mod OpenLemmas

@@ -3,7 +3,7 @@ use Rattle.std.proofs.Common.{◌≡◌, ◌<◌, inl, inr, ℕ, zero, suc, ◌+
 use Rattle.std.proofs.lemmas.List.{length-map}
 use Rattle.mdb_base.specs.Counts.{HasCauseOf}
 use Rattle.order_laws.specs.Chains.{In}
-use Rattle.federation_run.proofs.Places.{before_or_last}
+use Rattle.federation_run.proofs.ForCallers.{before_or_last}
 use Rattle.journal_disk.specs.Disk.{Image, Seen}
 use Rattle.found_disks.specs.Reading.{images_of}
 use Rattle.fed_world.specs.Reopening.{AreSynced}

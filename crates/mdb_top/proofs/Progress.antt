@@ -3,10 +3,9 @@ use Rattle.std.proofs.Common.{◌≡◌, ℕ, zero, suc, ◌+◌, ◌-◌, ◌*�
 use Rattle.std.proofs.lemmas.Bool.{eqb-true}
 use Rattle.std.proofs.lemmas.List.{append_assoc, append-nil, length-append, length-drop, length-take-le, take-append-drop, take_all}
 use Rattle.std.proofs.Math.Seq.{drop-append_seam, take-add, take-append_seam}
-use Rattle.mdb_base.proofs.JoinLaws.{nothing_left}
+use Rattle.mdb_base.proofs.ForCallers.{nothing_left, take_left}
 use Rattle.mdb_top.specs.Streams.{Gives, Takes}
 use Rattle.mdb_top.specs.Progress.{HasPut, ReadsOn, HasTaken}
-use Rattle.mdb_base.proofs.PlaceLaws.{take_left}
 
 -- a front of the rest is put behind what was put
 pub put-more : (tells : Bool) (before now new : List ℕ) (f g h : ℕ) (bytes : List ℕ) (place n : ℕ) → HasPut tells before now f g bytes place → Takes n (length (take (length bytes - place) (drop place bytes))) → (IsTrue tells → new ≡ now ++ take n (take (length bytes - place) (drop place bytes))) → h ≡ g → HasPut tells before new f h bytes (place + n)

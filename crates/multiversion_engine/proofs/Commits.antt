@@ -11,18 +11,13 @@ use Rattle.fed_rules.specs.Runs.{Start, EngineLine, Commits, Run, run_at, commit
 use Rattle.fed_rules.specs.Replies.{AtBegin, has_written}
 use Rattle.fed_rules.specs.EngineLines.{IsStart, IsRight}
 use Rattle.engine_laws.specs.Unended.{has_write}
-use Rattle.engine_laws.proofs.ByNumber.{below, StaysClear, falls_inserted}
-use Rattle.engine_laws.proofs.Runs.{at_line, committed_is, number_is}
-use Rattle.engine_laws.proofs.Sound.{IsSound}
-use Rattle.engine_laws.proofs.AgeRuns.{aged, age_sound}
-use Rattle.engine_laws.proofs.MultiversionRuns.{multiversion_by_age}
-use Rattle.engine_laws.proofs.Tables.{clear_unwritten}
+use Rattle.engine_laws.proofs.ForCallers.{IsSound, StaysClear, age_sound, aged, at_line, below, clear_unwritten, committed_is, falls_inserted, multiversion_by_age, number_is}
 use Rattle.site_tables.specs.declared.versions.Version.{Version}
 use Rattle.site_tables.specs.Numbers.{number_of}
 use Rattle.site_tables.specs.Tables.{is_newer, written}
 use Rattle.run_book.specs.Held.{own_write}
 use Rattle.run_book.specs.Tables.{kept_after}
-use Rattle.run_book.proofs.Kept.{kept-by_number}
+use Rattle.run_book.proofs.ForCallers.{kept-by_number}
 use Rattle.multiversion_engine.specs.declared.old_versions.Place.{Place}
 use Rattle.multiversion_engine.specs.OldVersions.{Olds, place_of, IsUnread, Prunes, writes_key}
 use Rattle.access_ages.specs.Takers.{ByAge}

@@ -5,18 +5,17 @@ use Rattle.mdb_base.specs.declared.names.Key.{Key}
 use Rattle.mdb_base.specs.declared.rows.Put.{Put}
 use Rattle.mdb_base.specs.Names.{same_key}
 use Rattle.mdb_base.specs.Words.{Each, inserted}
-use Rattle.mdb_base.proofs.ListLaws.{each_map, each_filtered, those_inserted, those_pass}
+use Rattle.mdb_base.proofs.ForCallers.{each_filtered, each_map, those_inserted, those_pass}
 use Rattle.fed_rules.specs.Runs.{Access, Got, Wrote, Run, number, by_number}
 use Rattle.fed_rules.specs.SerialRuns.{NumbersFall}
 use Rattle.engine_laws.specs.Unended.{has_write}
-use Rattle.engine_laws.proofs.ByNumber.{is_later, below, StaysClear, falls_inserted}
-use Rattle.engine_laws.proofs.Tables.{clear_unwritten}
+use Rattle.engine_laws.proofs.ForCallers.{StaysClear, below, clear_unwritten, falls_inserted, is_later}
 use Rattle.site_tables.specs.declared.versions.Version.{Version}
 use Rattle.site_tables.specs.Numbers.{number_of}
 use Rattle.site_tables.specs.Tables.{is_newer, written}
 use Rattle.run_book.specs.Held.{own_write}
 use Rattle.run_book.specs.Tables.{or_kept, kept_after}
-use Rattle.run_book.proofs.Kept.{newer-after, kept-by_number}
+use Rattle.run_book.proofs.ForCallers.{kept-by_number, newer-after}
 
 -- a version with a smaller number is one that a write of this number replaces
 pub newer_number : (n : ℕ) (kept : Option Version) → 0 < n → is_newer n kept ≡ nat_lt (number_of kept) n

@@ -1,14 +1,14 @@
-pub mod Ages
-pub mod Back
-pub mod ByAge
-pub mod Commits
-pub mod KeptBelow
-pub mod Lines
-pub mod Noting
-pub mod Places
-pub mod Pruned
-pub mod Ranges
-pub mod Replies
-pub mod Starts
-pub mod TakenBack
-pub mod Versions
+mod Ages
+mod Back
+mod ByAge
+mod Commits
+mod KeptBelow
+mod Lines
+mod Noting
+mod Places
+mod Pruned
+mod Ranges
+mod Replies
+mod Starts
+mod TakenBack
+mod Versions

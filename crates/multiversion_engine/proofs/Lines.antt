@@ -6,20 +6,17 @@ use Rattle.mdb_base.specs.declared.names.Tid.{Tid}
 use Rattle.mdb_base.specs.declared.replies.Reply.TheVariants.{Done, Value, Ticket, Wait, Refused, Unknown}
 use Rattle.fed_rules.specs.Runs.{Start, EngineLine, Begins, Acts, Takes, Seals, Refuses, Commits, Aborts, Run, tid_of, begun, changed, gives_up, run_at, counter}
 use Rattle.fed_rules.specs.EngineLines.{IsFree, IsRightLine}
-use Rattle.engine_laws.proofs.MultiversionRuns.{multiversion_by_age}
+use Rattle.engine_laws.proofs.ForCallers.{multiversion_by_age}
 use Rattle.access_ages.specs.Ages.{Ages, ages_of, unwritten}
 use Rattle.access_ages.specs.Takers.{Takers, without_taker, ByAge}
 use Rattle.access_ages.specs.Laws.{AreNow, IsNoted, where_written}
 use Rattle.access_ages.specs.Lines.{KeepsAges}
-use Rattle.access_ages.proofs.Outcomes.{ends-none, gives_up-ends}
-use Rattle.access_ages.proofs.Steps.{follows_begins, follows_calls}
+use Rattle.access_ages.proofs.ForCallers.{ends-none, follows_begins, follows_calls, gives_up-ends}
 use Rattle.run_book.specs.Held.{Held, held_in}
 use Rattle.run_book.specs.Book.{Book, begins, drops, commits}
 use Rattle.run_book.specs.Keeps.{Keeps}
 use Rattle.run_book.specs.Laws.{IsCalled}
-use Rattle.run_book.proofs.Ages.{age-le, ages-differ}
-use Rattle.run_book.proofs.Calls.{run_at-held}
-use Rattle.run_book.proofs.Carried.{calls_well}
+use Rattle.run_book.proofs.ForCallers.{age-le, ages-differ, calls_well, run_at-held}
 use Rattle.multiversion_engine.specs.declared.engine.MultiversionEngine.{MultiversionEngine}
 use Rattle.multiversion_engine.specs.OldVersions.{Olds, Prunes, writes_key}
 use Rattle.multiversion_engine.specs.Unended.{AreUnended}
@@ -29,7 +26,7 @@ use Rattle.multiversion_engine.proofs.Ages.{ChangesOne, unended_on, unended_more
 use Rattle.multiversion_engine.proofs.Commits.{versions_commit}
 use Rattle.multiversion_engine.proofs.Versions.{is_commit, NotesItsWrite, versions_next}
 use Rattle.fed_rules.specs.Runs.{number}
-use Rattle.fed_rules.proofs.RunLines.{run_at_other, run_at_own}
+use Rattle.fed_rules.proofs.ForCallers.{run_at_other, run_at_own}
 
 -- a call that changes nothing, but that it may leave more room, and old versions that serve as well
 pub stands_kept : (old new : MultiversionEngine) (start : Start) (lines : List EngineLine) → Stands old start lines → new.book.book ≡ old.book.book → old.book.room ≤ new.book.room →

@@ -12,7 +12,7 @@ use Rattle.std.proofs.lemmas.Bool.Decides.{nat_tests}
 use Rattle.std.proofs.lemmas.Cmp.{on_total, then_total}
 use Rattle.std.proofs.lemmas.Map.Lookups.{CmpEqualImpliesEq, exact_pairs, exact_unsigned}
 use Rattle.std.proofs.lemmas.Map.Keys.{le_from_not_gt}
-use Rattle.mdb_base.proofs.NumberLaws.{is_eq-nat_cmp, is_eq-then, nat_cmp-less, nat_cmp-equal, less-nat_cmp, nat_cmp-same, le-nat_cmp}
+use Rattle.mdb_base.proofs.ForCallers.{is_eq-nat_cmp, is_eq-then, le-nat_cmp, less-nat_cmp, nat_cmp-equal, nat_cmp-less, nat_cmp-same}
 use Rattle.multiversion_engine.specs.declared.old_versions.Place.{Place}
 use Rattle.multiversion_engine.specs.OldVersions.{Olds, place_cmp}
 

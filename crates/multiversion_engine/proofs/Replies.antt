@@ -14,21 +14,18 @@ use Rattle.mdb_base.specs.Words.{or_else, greatest}
 use Rattle.fed_rules.specs.Runs.{Start, EngineLine, Acts, Takes, Seals, Got, Wrote, Run, run_at, has_ticket, published}
 use Rattle.fed_rules.specs.Replies.{age_of, has_written, late_or_wait, wait_for_writer, older_writers, access_stop, ticket_stop, seal_stop, seal_number, granted, granted_by, rule, or_reply, table_before}
 use Rattle.fed_rules.specs.EngineLines.{IsRightLine}
-use Rattle.engine_laws.proofs.AgeTickets.{age_one_taker}
-use Rattle.engine_laws.proofs.MultiversionRuns.{multiversion_by_age}
+use Rattle.engine_laws.proofs.ForCallers.{age_one_taker, multiversion_by_age}
 use Rattle.access_ages.specs.Ages.{Ages, ages_of, younger_of, with_reader, with_writer}
 use Rattle.access_ages.specs.Takers.{Takers, with_taker}
 use Rattle.access_ages.specs.Stops.{above, below, stop_by, youngest_against, writer_stop, IsTicketStop}
 use Rattle.access_ages.specs.Laws.{AreNow, at_key}
-use Rattle.access_ages.proofs.Rules.{stops_access, stops_reader}
-use Rattle.access_ages.proofs.TicketRules.{stops_taking}
+use Rattle.access_ages.proofs.ForCallers.{stops_access, stops_reader, stops_taking}
 use Rattle.run_book.specs.declared.counters.Counters.{Counters}
 use Rattle.run_book.specs.declared.rival.Rival.{Rival}
 use Rattle.run_book.specs.Rivals.{rival_by}
 use Rattle.run_book.specs.Held.{Held, held_in, own_write}
 use Rattle.run_book.specs.Book.{grants, tickets, seals, taken_by}
-use Rattle.run_book.proofs.Calls.{run_at-held}
-use Rattle.run_book.proofs.ValueLemmas.{after-own_write}
+use Rattle.run_book.proofs.ForCallers.{after-own_write, run_at-held}
 use Rattle.site_tables.specs.declared.versions.Version.{Version}
 use Rattle.multiversion_engine.specs.declared.engine.MultiversionEngine.{MultiversionEngine}
 use Rattle.site_tables.specs.Numbers.{number_of}

@@ -9,24 +9,24 @@ use Rattle.mdb_base.specs.declared.names.Tid.{Tid}
 use Rattle.mdb_base.specs.declared.rows.Put.{Put}
 use Rattle.mdb_base.specs.Names.{same_tid, same_key}
 use Rattle.mdb_base.specs.Rising.{IsRising}
-use Rattle.mdb_base.proofs.NameLaws.{same_key-equal}
+use Rattle.mdb_base.proofs.ForCallers.{same_key-equal}
 use Rattle.fed_rules.specs.declared.runs.Kept.{Kept}
 use Rattle.fed_rules.specs.Runs.{Start, Run, run_at, restored, restored_at}
 use Rattle.fed_rules.specs.Replies.{has_written}
 use Rattle.fed_rules.specs.EngineLines.{IsStart, has_row}
 use Rattle.engine_contract.specs.Calls.{start_from}
-use Rattle.engine_laws.proofs.Restored.{has_write_written}
+use Rattle.engine_laws.proofs.ForCallers.{has_write_written}
 use Rattle.access_ages.specs.Ages.{no_ages, restored_writer}
 use Rattle.access_ages.specs.Takers.{no_takers, restored_takers, ByAge}
 use Rattle.access_ages.specs.Laws.{AreNow}
-use Rattle.access_ages.proofs.Steps.{follows_starts}
+use Rattle.access_ages.proofs.ForCallers.{follows_starts}
 use Rattle.site_tables.specs.declared.versions.Version.{Version}
 use Rattle.site_tables.specs.Numbers.{number_of}
 use Rattle.site_tables.specs.Tables.{is_newer}
 use Rattle.site_tables.specs.Tables.{written as written_row}
 use Rattle.run_book.specs.Book.{Book, started, table_in, number_in}
 use Rattle.run_book.specs.Tables.{kept_after}
-use Rattle.run_book.proofs.Carried.{starts_well}
+use Rattle.run_book.proofs.ForCallers.{starts_well}
 use Rattle.multiversion_engine.specs.declared.engine.MultiversionEngine.{MultiversionEngine}
 use Rattle.multiversion_engine.specs.declared.old_versions.Place.{Place}
 use Rattle.multiversion_engine.specs.OldVersions.{Olds, place_of, place_cmp}

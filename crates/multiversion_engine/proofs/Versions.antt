@@ -7,18 +7,15 @@ use Rattle.mdb_base.specs.declared.names.Tid.{Tid}
 use Rattle.mdb_base.specs.declared.acts.PlainAct.TheVariants.{Write}
 use Rattle.mdb_base.specs.declared.replies.Reply.TheVariants.{Done}
 use Rattle.mdb_base.specs.Names.{same_key}
-use Rattle.mdb_base.proofs.NameLaws.{same_key-equal}
-use Rattle.mdb_base.proofs.ListLaws.{each_map}
+use Rattle.mdb_base.proofs.ForCallers.{each_map, same_key-equal}
 use Rattle.fed_rules.specs.Runs.{Start, EngineLine, Acts, Commits, Run, run_at, committed, number}
 use Rattle.fed_rules.specs.Replies.{has_written, table_before}
 use Rattle.fed_rules.specs.EngineLines.{IsStart, IsRight}
-use Rattle.engine_laws.proofs.ByNumber.{below}
-use Rattle.engine_laws.proofs.Runs.{Own, begins, stays, got, wrote, takes, seals, own, at_line}
-use Rattle.engine_laws.proofs.Counted.{counted}
+use Rattle.engine_laws.proofs.ForCallers.{Own, at_line, begins, below, counted, got, own, seals, stays, takes, wrote}
 use Rattle.site_tables.specs.declared.versions.Version.{Version}
 use Rattle.site_tables.specs.Numbers.{number_of}
 use Rattle.site_tables.specs.Tables.{is_newer, value_of}
-use Rattle.run_book.proofs.Kept.{newer-after, value-kept_after}
+use Rattle.run_book.proofs.ForCallers.{newer-after, value-kept_after}
 use Rattle.multiversion_engine.specs.declared.old_versions.Place.{Place}
 use Rattle.multiversion_engine.specs.declared.old_versions.OldVersion.{OldVersion}
 use Rattle.multiversion_engine.specs.OldVersions.{Olds, place_of, IsLastBelow, value_in}

@@ -1,6 +1,6 @@
 use Rattle.std.proofs.Common.{◌⊎◌, List, [], ◌∷◌, ◌++◌, inl, inr, subst, sym, map}
 use Rattle.mdb_base.specs.Words.{Each}
-use Rattle.mdb_base.proofs.ListLaws.{append_each}
+use Rattle.mdb_base.proofs.ForCallers.{append_each}
 use Rattle.order_laws.specs.Chains.{In, Chain, Acyclic, Within, Way}
 
 -- two chains, of which the first ends where the second begins, are one

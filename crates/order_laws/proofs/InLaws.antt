@@ -4,9 +4,7 @@ use Rattle.mdb_base.specs.declared.names.Tid.{Tid}
 use Rattle.mdb_base.specs.Names.{tid_before, same_tx}
 use Rattle.mdb_base.specs.Words.{item_at, found, with_some, Each, inserted, Among, those}
 use Rattle.mdb_base.specs.declared.names.Tx.{Tx}
-use Rattle.mdb_base.proofs.NameLaws.{same_tx-equal, same_tx-refl}
-use Rattle.mdb_base.proofs.ListLaws.{append_each}
-use Rattle.mdb_base.proofs.JoinLaws.{reverse_more}
+use Rattle.mdb_base.proofs.ForCallers.{append_each, reverse_more, same_tx-equal, same_tx-refl}
 use Rattle.order_laws.specs.Chains.{In, Distinct}
 use Rattle.order_laws.proofs.Names.{ranks_tids}
 
@@ -89,15 +87,6 @@ in_inserted {A} before x y (z ∷ zs) i = by_test (before z x) i (in_inserted be
     by_test true (inr j) h = elim (h j) [ inl e ↦ inl e | inr k ↦ inr (inr k) ]
     by_test false (inl e) h = inl e
     by_test false (inr j) h = inr j
-
-pub in_reverse : {A : Type 0} (a : A) (xs : List A) → In a (reverse xs) → In a xs
-in_reverse a [] i = i
-in_reverse a (x ∷ xs) i = by_place (in_append a (reverse xs) (x ∷ []) (subst (In a) (reverse_more x xs) i)) (in_reverse a xs)
-  where
-    by_place : In a (reverse xs) ⊎ ((x ≡ a) ⊎ ⊥) → (In a (reverse xs) → In a xs) → (x ≡ a) ⊎ In a xs
-    by_place (inl j) rest = inr (rest j)
-    by_place (inr (inl e)) rest = inl e
-    by_place (inr (inr never)) rest = elim never [ ]
 
 pub append_in : {A : Type 0} (y : A) (xs ys : List A) → In y xs ⊎ In y ys → In y (xs ++ ys)
 append_in y [] ys (inl i) = elim i [ ]

@@ -1,7 +1,7 @@
 -- What holds among, and of each of, the items of joined lists.
 use Rattle.std.proofs.Common.{◌≡◌, ℕ, zero, suc, inl, inr, List, [], ◌∷◌, ◌++◌, take}
 use Rattle.mdb_base.specs.Words.{Each, Among}
-use Rattle.mdb_base.proofs.EachLaws.{among_append}
+use Rattle.mdb_base.proofs.ForCallers.{among_append}
 use Rattle.order_laws.specs.Chains.{In}
 
 -- what no item is, none is among them

@@ -1,7 +1,7 @@
 use Rattle.std.proofs.Common.{◌≡◌, Bool, true, false, not, List, [], ◌∷◌, inl, inr, refl, subst, sym, ap, map}
 use Rattle.std.proofs.lemmas.Bool.{not-true}
 use Rattle.mdb_base.specs.Words.{Each, Among, some_of, each_of, those}
-use Rattle.mdb_base.proofs.ListLaws.{among_some, each_of_map}
+use Rattle.mdb_base.proofs.ForCallers.{among_some, each_of_map}
 use Rattle.order_laws.specs.Chains.{In, Distinct}
 use Rattle.order_laws.specs.Orders.{Before, Union, is_in, TellsApart, Ranks}
 use Rattle.order_laws.specs.Merge.{IsMerge}

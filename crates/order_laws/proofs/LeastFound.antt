@@ -1,7 +1,7 @@
 use Rattle.std.proofs.Common.{suc, ◌<◌, ◌≤◌, ◌≡◌, Bool, true, false, not, cond, Option, Some, None, List, [], ◌∷◌, length, inl, inr, refl, subst, sym, ap, map, arith, length-append}
 use Rattle.std.proofs.lemmas.Bool.{not-true}
 use Rattle.mdb_base.specs.Words.{Each, Among, those}
-use Rattle.mdb_base.proofs.TestLaws.{length_those}
+use Rattle.mdb_base.proofs.ForCallers.{length_those}
 use Rattle.order_laws.specs.Chains.{In, Acyclic, Path}
 use Rattle.order_laws.specs.Orders.{Before, Union, is_in, TellsApart, Ranks}
 use Rattle.order_laws.specs.Least.{without, IsFree, IsLeastMerge, rest, heads, all_items, is_free, next_item, merged, least_merge}

@@ -1,21 +1,22 @@
+pub mod ForCallers
 mod Examples
-pub mod Alike
-pub mod Chains
-pub mod Earliest
-pub mod InLaws
-pub mod Joined
-pub mod Least
-pub mod LeastFound
-pub mod Lists
-pub mod Members
-pub mod Merge
-pub mod Names
-pub mod OneOrder
-pub mod Orders
-pub mod Placed
-pub mod Reversed
-pub mod Search
-pub mod Sites
-pub mod Source
-pub mod Tickets
-pub mod SortedLists
+mod Alike
+mod Chains
+mod Earliest
+mod InLaws
+mod Joined
+mod Least
+mod LeastFound
+mod Lists
+mod Members
+mod Merge
+mod Names
+mod OneOrder
+mod Orders
+mod Placed
+mod Reversed
+mod Search
+mod Sites
+mod Source
+mod Tickets
+mod SortedLists

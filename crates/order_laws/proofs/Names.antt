@@ -3,7 +3,7 @@ use Rattle.std.proofs.lemmas.Bool.Decides.{nat_tests}
 use Rattle.std.specs.Ordering.{is_eq}
 use Rattle.mdb_base.specs.declared.names.Tid.{Tid}
 use Rattle.mdb_base.specs.Names.{same_tid, tid_before, tid_cmp}
-use Rattle.mdb_base.proofs.NameLaws.{same_tid-refl, same_tid-equal, before_onward}
+use Rattle.mdb_base.proofs.ForCallers.{before_onward, same_tid-equal, same_tid-refl}
 use Rattle.order_laws.specs.Orders.{TellsApart, Ranks}
 
 -- attempts are told apart by their numbers

@@ -1,7 +1,7 @@
 -- The least merge of one order is that order.
 use Rattle.std.proofs.Common.{◌≡◌, Bool, true, false, cond, not, ◌&&◌, Option, Some, None, List, [], ◌∷◌, ◌++◌, map, inl, inr, refl, sym, ◌∙◌, ap}
 use Rattle.mdb_base.specs.Words.{Each, those}
-use Rattle.mdb_base.proofs.ListLaws.{each_map, those_all, none_some_of}
+use Rattle.mdb_base.proofs.ForCallers.{each_map, none_some_of, those_all}
 use Rattle.order_laws.specs.Chains.{In, Distinct}
 use Rattle.order_laws.specs.Orders.{TellsApart}
 use Rattle.order_laws.specs.Least.{without, earliest, next_item, merged, least_merge}

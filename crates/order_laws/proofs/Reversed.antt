@@ -1,6 +1,6 @@
 -- Lists turned round, and what is put into a list.
 use Rattle.std.proofs.Common.{◌≡◌, List, [], ◌∷◌, ◌++◌, map, reverse, inl, inr, refl, sym, ◌∙◌, ap, ap₂, subst}
-use Rattle.mdb_base.proofs.JoinLaws.{reverse_more}
+use Rattle.mdb_base.proofs.ForCallers.{reverse_more}
 use Rattle.order_laws.specs.Chains.{In}
 use Rattle.std.proofs.lemmas.List.{map_push}
 

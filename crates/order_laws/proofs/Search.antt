@@ -1,6 +1,6 @@
 use Rattle.std.proofs.Common.{◌≡◌, ◌⊎◌, Option, Some, None, List, [], ◌∷◌, ◌++◌, inl, inr, refl, subst}
 use Rattle.mdb_base.specs.Words.{Each, map_some}
-use Rattle.mdb_base.proofs.ListLaws.{append_each}
+use Rattle.mdb_base.proofs.ForCallers.{append_each}
 use Rattle.order_laws.specs.Chains.{In, Chain, Acyclic, Within, Way}
 use Rattle.order_laws.specs.Search.{or_way, and_then, path, cycle_through, Linked, Walk}
 use Rattle.order_laws.proofs.Chains.{way_splits, accepted}

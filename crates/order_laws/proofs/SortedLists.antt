@@ -11,8 +11,7 @@ use Rattle.std.proofs.lemmas.List.Sums.{sum_by-cons}
 use Rattle.mdb_base.specs.declared.names.Tid.{Tid}
 use Rattle.mdb_base.specs.Names.{same_tid, tid_before, tid_cmp}
 use Rattle.mdb_base.specs.Words.{Each, inserted}
-use Rattle.mdb_base.proofs.ListLaws.{each_map, each_inserted}
-use Rattle.mdb_base.proofs.NameLaws.{same_tid-refl, not_before_onward, before_itself}
+use Rattle.mdb_base.proofs.ForCallers.{before_itself, each_inserted, each_map, not_before_onward, same_tid-refl}
 use Rattle.order_laws.proofs.Names.{ranks_tids}
 use Rattle.order_laws.specs.SortedLists.{also, merged}
 
@@ -184,5 +183,5 @@ rest_merged all (x ∷ xs) right (inl end) = absurd (omega (arith, end))
 rest_merged all (x ∷ xs) [] (inr end) = append-nil (all ++ x ∷ xs)
 rest_merged all (x ∷ xs) (y ∷ ys) (inr end) = absurd (omega (arith, end))
 
-pub none_left : (n : ℕ) → true ≡ (n == 0) → n < 1
-none_left n e = let none = eqb-true n 0 (sym e) in omega (arith, none)
+pub zero_below_one : (n : ℕ) → true ≡ (n == 0) → n < 1
+zero_below_one n e = let none = eqb-true n 0 (sym e) in omega (arith, none)

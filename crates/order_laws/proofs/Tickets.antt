@@ -4,7 +4,7 @@ use Rattle.mdb_base.specs.declared.names.SiteTicket.{SiteTicket}
 use Rattle.mdb_base.specs.declared.names.Tid.{Tid}
 use Rattle.mdb_base.specs.declared.replies.Edge.{Edge}
 use Rattle.mdb_base.specs.Words.{Each, some_of, first_where, map_some}
-use Rattle.mdb_base.proofs.ListLaws.{among_some}
+use Rattle.mdb_base.proofs.ForCallers.{among_some}
 use Rattle.order_laws.specs.Chains.{In, Acyclic, Within, Way}
 use Rattle.order_laws.specs.Search.{cycle_through, Linked, Walk}
 use Rattle.order_laws.specs.Tickets.{Ticketed, Precedes, IsEdge, Leads, IsCycle, OneEach, HasNoCycle, is_above, edge_between}

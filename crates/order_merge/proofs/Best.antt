@@ -5,15 +5,10 @@ use Rattle.std.proofs.lemmas.List.{take_more, take_all}
 use Rattle.mdb_base.specs.Words.{those}
 use Rattle.mdb_base.specs.declared.names.Tid.{Tid}
 use Rattle.mdb_base.specs.Names.{same_tid, tid_before}
-use Rattle.mdb_base.proofs.TestLaws.{those_append}
-use Rattle.mdb_base.proofs.JoinLaws.{append_nil}
+use Rattle.mdb_base.proofs.ForCallers.{append_nil, those_append}
 use Rattle.order_laws.specs.Chains.{In}
 use Rattle.order_laws.specs.Least.{heads, is_free, earlier}
-use Rattle.order_laws.proofs.InLaws.{append_in, in_parts}
-use Rattle.order_laws.proofs.Lists.{those_in}
-use Rattle.order_laws.proofs.Earliest.{IsEarliest, not_before_self, earliest_push}
-use Rattle.order_laws.proofs.LeastFound.{free_is, is_free_in}
-use Rattle.order_laws.proofs.Names.{tells_tids, ranks_tids}
+use Rattle.order_laws.proofs.ForCallers.{IsEarliest, append_in, earliest_push, free_is, in_parts, is_free_in, not_before_self, ranks_tids, tells_tids, those_in}
 use Rattle.order_merge.specs.Next.{IsNext, is_earlier}
 
 -- the earliest of the list, or none where there is nothing in it

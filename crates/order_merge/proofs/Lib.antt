@@ -1,4 +1,4 @@
-pub mod Queues
-pub mod Best
-pub mod InPlace
-pub mod Steps
+mod Queues
+mod Best
+mod InPlace
+mod Steps

@@ -3,14 +3,11 @@ use Rattle.std.specs.Option.{option_eq}
 use Rattle.std.specs.Ordering.{is_eq}
 use Rattle.mdb_base.specs.declared.names.Tid.{Tid}
 use Rattle.mdb_base.specs.Names.{same_tid, tid_cmp}
-use Rattle.mdb_base.proofs.NameLaws.{same_tid-refl, same_tid-equal}
-use Rattle.mdb_base.proofs.BoolLaws.{or_swap}
+use Rattle.mdb_base.proofs.ForCallers.{or_swap, same_tid-equal, same_tid-refl}
 use Rattle.order_laws.specs.Chains.{In, Distinct}
 use Rattle.order_laws.specs.Orders.{Before, is_in}
 use Rattle.order_laws.specs.Least.{rest, without}
-use Rattle.order_laws.proofs.Lists.{not_in_false}
-use Rattle.order_laws.proofs.Names.{is_eq-tid_cmp, tells_tids}
-use Rattle.order_laws.proofs.Least.{without_first, without_other}
+use Rattle.order_laws.proofs.ForCallers.{is_eq-tid_cmp, not_in_false, tells_tids, without_first, without_other}
 
 -- a list with one more item has that one, and those that it had
 pub is_in-append : {A : Type 0} (same : A → A → Bool) (xs : List A) (x t : A) → is_in same (xs ++ x ∷ []) t ≡ (same t x || is_in same xs t)

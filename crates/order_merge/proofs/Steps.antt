@@ -6,10 +6,7 @@ use Rattle.order_laws.specs.Chains.{Acyclic}
 use Rattle.order_laws.specs.Orders.{Union}
 use Rattle.order_laws.specs.Merge.{IsLeastOrder}
 use Rattle.order_laws.specs.Least.{without, all_items, IsLeastMerge}
-use Rattle.order_laws.proofs.Least.{not_self}
-use Rattle.order_laws.proofs.LeastFound.{acyclic_without, all_fewer, none_left}
-use Rattle.order_laws.proofs.Names.{tells_tids, ranks_tids}
-use Rattle.order_laws.proofs.Placed.{least_merge_placed}
+use Rattle.order_laws.proofs.ForCallers.{acyclic_without, all_fewer, least_merge_placed, none_left, not_self, ranks_tids, tells_tids}
 use Rattle.order_merge.specs.Next.{IsNext}
 
 -- what is left has no cycle, and its least merge completes what was merged

@@ -1,6 +1,7 @@
-pub mod Kept
-pub mod Outputs
-pub mod Recalled
-pub mod Sized
-pub mod Stops
-pub mod Stores
+pub mod ForCallers
+mod Kept
+mod Outputs
+mod Recalled
+mod Sized
+mod Stops
+mod Stores

@@ -3,7 +3,7 @@ use Rattle.std.proofs.Common.{◌≡◌, ℕ, zero, suc, ◌<◌, Some, List, []
 use Rattle.std.proofs.lemmas.Option.{slice_get_within}
 use Rattle.mdb_base.specs.declared.names.SiteId.{SiteId}
 use Rattle.order_laws.specs.Chains.{In}
-use Rattle.federation_laws.proofs.Declared.{declared-in}
+use Rattle.federation_laws.proofs.ForCallers.{declared-in}
 use Rattle.fed_rules.specs.Scenarios.{home_of, sites}
 use Rattle.fed_rules.specs.Sessions.{Session}
 use Rattle.fed_rules.specs.SiteRecords.{Home}

@@ -1,12 +1,12 @@
 -- What is on the disk of an actor's store while the actor is up: the frames of its records alone.
 use Rattle.std.proofs.Common.{◌≡◌, ℕ, Bool, true, false, IsTrue, List, [], ◌++◌, length, map, ◌∙◌, ap, arith}
 use Rattle.std.proofs.lemmas.List.{append-nil, length-append}
-use Rattle.mdb_base.proofs.JoinLaws.{nothing_left}
+use Rattle.mdb_base.proofs.ForCallers.{nothing_left}
 use Rattle.fed_rules.specs.Disk.{Disk}
 use Rattle.journal_disk.specs.Disk.{Seen}
 use Rattle.frame_journal.specs.Journal.{IsKeptOn}
 use Rattle.frame_journal.specs.Records.{entry_frame, spelled, spelled_size}
-use Rattle.frame_journal.proofs.Keeping.{length-frames, not_torn}
+use Rattle.frame_journal.proofs.ForCallers.{length-frames, not_torn}
 use Rattle.actor_store.specs.declared.store.Standing.{Standing}
 use Rattle.actor_store.specs.declared.store.Standing.TheVariants.{Up, Down, Failing}
 use Rattle.actor_store.specs.Store.{IsInOrder, Stored, is_up}

@@ -7,12 +7,12 @@ use Rattle.mdb_base.specs.declared.names.Tid.{Tid}
 use Rattle.mdb_base.specs.Rising.{IsRising}
 use Rattle.order_laws.specs.Chains.{In}
 use Rattle.order_laws.specs.Tickets.{Ticketed, Precedes, IsCycle, HasNoCycle, OneEach}
-use Rattle.order_laws.proofs.Lists.{in_either}
+use Rattle.order_laws.proofs.ForCallers.{in_either}
 use Rattle.ticket_graph.specs.declared.verdict.Verdict.{Verdict}
 use Rattle.ticket_graph.specs.declared.verdict.Verdict.TheVariants.{Added, Cycle}
 use Rattle.ticket_graph.specs.Graph.{Graph, floor_of, tids_of, AreAbove, IsAfter}
 use Rattle.ticket_graph.specs.Reach.{floor_in}
-use Rattle.ticket_graph.proofs.GraphLemmas.{tid_in, in_tids, no_loop}
+use Rattle.ticket_graph.proofs.ForCallers.{in_tids, no_loop, tid_in}
 
 abbrev pub site_of : SiteTicket → ℕ
 site_of ticket = ticket.site.0

@@ -4,7 +4,7 @@ use Rattle.mdb_base.specs.Words.{Each}
 use Rattle.mdb_base.specs.declared.names.Tid.{Tid}
 use Rattle.order_laws.specs.Chains.{In, Chain, Acyclic}
 use Rattle.order_laws.specs.Orders.{Before, Union}
-use Rattle.order_laws.proofs.Lists.{in_either}
+use Rattle.order_laws.proofs.ForCallers.{in_either}
 
 -- the attempt that stands before another has the smaller number
 abbrev pub Rises : List Tid → Type 0

@@ -5,9 +5,7 @@ use Rattle.mdb_base.specs.declared.names.Tid.{Tid}
 use Rattle.mdb_base.specs.Names.{same_tid}
 use Rattle.order_laws.specs.Chains.{Acyclic, Distinct}
 use Rattle.order_laws.specs.Orders.{Union}
-use Rattle.order_laws.proofs.Merge.{merge_acyclic}
-use Rattle.order_laws.proofs.Lists.{distinct_by_test}
-use Rattle.order_laws.proofs.Names.{tells_tids}
+use Rattle.order_laws.proofs.ForCallers.{distinct_by_test, merge_acyclic, tells_tids}
 
 abbrev pub one : Tid
 one = record { tx = record { 0 = 1 }; attempt = 0 }

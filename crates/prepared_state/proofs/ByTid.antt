@@ -5,10 +5,7 @@ use Rattle.std.specs.List.Sorted.{IsPartitionedBy}
 use Rattle.mdb_base.specs.declared.names.Tid.{Tid}
 use Rattle.mdb_base.specs.Names.{same_tid, tid_before}
 use Rattle.mdb_base.specs.Words.{Each, item_at}
-use Rattle.mdb_base.proofs.ListLaws.{each_map}
-use Rattle.mdb_base.proofs.Words.{item_at-within, item_at-past}
-use Rattle.mdb_base.proofs.NameLaws.{before_onward, before_apart, before_not_back}
-use Rattle.mdb_base.proofs.EachLaws.{each_get_or}
+use Rattle.mdb_base.proofs.ForCallers.{before_apart, before_not_back, before_onward, each_get_or, each_map, item_at-past, item_at-within}
 use Rattle.fed_rules.specs.declared.runs.Doubt.{Doubt}
 use Rattle.prepared_state.specs.Book.{IsByTid, count_before, doubt_about, others, stands_before}
 

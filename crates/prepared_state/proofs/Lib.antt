@@ -1,2 +1,3 @@
-pub mod ByTid
-pub mod OneMore
+pub mod ForCallers
+mod ByTid
+mod OneMore

@@ -6,8 +6,7 @@ use Rattle.std.proofs.lemmas.List.{take_more}
 use Rattle.mdb_base.specs.declared.names.Tid.{Tid}
 use Rattle.mdb_base.specs.Names.{same_tid, tid_before}
 use Rattle.mdb_base.specs.Words.{inserted}
-use Rattle.mdb_base.proofs.ListLaws.{each_map, each_inserted}
-use Rattle.mdb_base.proofs.NameLaws.{same_tid-equal, same_tid-sym, before_onward}
+use Rattle.mdb_base.proofs.ForCallers.{before_onward, each_inserted, each_map, same_tid-equal, same_tid-sym}
 use Rattle.fed_rules.specs.declared.runs.Doubt.{Doubt}
 use Rattle.prepared_state.specs.Book.{AreApart, IsByTid, count_before, doubt_about, stands_before}
 use Rattle.prepared_state.proofs.ByTid.{total, behind_count}

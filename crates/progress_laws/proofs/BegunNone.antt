@@ -20,16 +20,13 @@ use Rattle.fed_rules.specs.SitePast.{SiteHappening, SitePast, attempts_of, begin
 use Rattle.fed_rules.specs.SiteRecords.{Home, local_of}
 use Rattle.fed_rules.specs.Story.{Story, Happened, AtSite, AtCoordinator, Nowhere, coord_past, happens, past_of, story_of}
 use Rattle.rules_laws.specs.Lines.{CoordCause, IsLine, IsCoordLine, SiteCause}
-use Rattle.rules_laws.proofs.Lines.{line_is}
-use Rattle.coord_laws.proofs.Sound.{begins_go}
-use Rattle.federation_laws.proofs.Told.{local_home-declared}
+use Rattle.rules_laws.proofs.ForCallers.{begins_nothing, line_is}
+use Rattle.coord_laws.proofs.ForCallers.{begins_go}
+use Rattle.federation_laws.proofs.ForCallers.{local_home-declared}
 use Rattle.closing_laws.specs.Finished.{begun, begun_at}
-use Rattle.closing_laws.proofs.Locals.{Begins, IsBeginOf, by_line}
+use Rattle.closing_laws.proofs.ForCallers.{Begins, BeginsNoneOf, IsBeginOf, among_committed, among_local, begun_is, by_line, commit_stays, committed_among, local_among, local_stays, no_begin, no_go, turn_line}
 use Rattle.mdb_base.specs.Words.{Each}
-use Rattle.mdb_base.proofs.OptionLaws.{some_parts}
-use Rattle.mdb_base.proofs.NameLaws.{same_site-equal}
-use Rattle.rules_laws.proofs.Commands.{begins_nothing}
-use Rattle.closing_laws.proofs.OthersStay.{BeginsNoneOf, no_begin, no_go, local_stays, turn_line, commit_stays, committed_among, among_committed, begun_is, local_among, among_local}
+use Rattle.mdb_base.proofs.ForCallers.{same_site-equal, some_parts}
 use Rattle.progress_laws.specs.Added.{is_of_closing}
 
 pub closing_begins_nothing : (command : Command) → is_of_closing command ≡ true → begins_nothing command ≡ true

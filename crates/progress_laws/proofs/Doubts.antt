@@ -3,8 +3,7 @@ use Rattle.std.proofs.Common.{◌≡◌, ℕ, false, cond, Option, Some, None, L
 use Rattle.mdb_base.specs.declared.names.SiteId.{SiteId}
 use Rattle.mdb_base.specs.declared.names.Tid.{Tid}
 use Rattle.mdb_base.specs.Words.{given, item_at}
-use Rattle.mdb_base.proofs.NameLaws.{same_tid-refl, same_site-refl}
-use Rattle.mdb_base.proofs.Words.{cond-true}
+use Rattle.mdb_base.proofs.ForCallers.{cond-true, same_site-refl, same_tid-refl}
 use Rattle.presumptions.specs.declared.Decision.{Decision}
 use Rattle.presumptions.specs.Table.{presumed}
 use Rattle.fed_rules.specs.declared.answers.Answer.{Answer}
@@ -26,13 +25,10 @@ use Rattle.fed_rules.specs.Runs.{Aborts}
 use Rattle.fed_rules.specs.SitePast.{SiteHappening, SitePast, live, records, trip_of}
 use Rattle.fed_rules.specs.SiteRecords.{Held, Home, doubt_of}
 use Rattle.fed_rules.specs.Story.{AtCoordinator, AtSite, Nowhere, Story, answer_of, coord_past, happens, on_give, on_site, past_of, sends_to, sent_from, sent_to, story_of, with_coordinator, with_site}
-use Rattle.closing_laws.proofs.Calm.{IsReady, asks, gives, ready_next, takes}
-use Rattle.closing_laws.proofs.CoordTurns.{takes_there}
-use Rattle.closing_laws.proofs.Delivered.{item_behind, sent_behind}
-use Rattle.closing_laws.proofs.Onward.{at_home}
+use Rattle.closing_laws.proofs.ForCallers.{IsReady, asks, at_home, gives, item_behind, ready_next, sent_behind, takes, takes_there}
 use Rattle.commit_laws.specs.Outcomes.{SettlesSayTheOutcome}
 use Rattle.commit_laws.specs.Outcomes.{Settles}
-use Rattle.commit_laws.proofs.SiteEnds.{settles-records}
+use Rattle.commit_laws.proofs.ForCallers.{settles-records}
 use Rattle.progress_laws.specs.Progress.{AreReady, DoubtsEndInThree, EndsDoubt, answer_given, asked, taken}
 
 -- the line that asks

@@ -1,10 +1,10 @@
 -- Wherever a session stands, closing it and then finishing each transaction alone leaves each with a commit.
 use Rattle.std.proofs.Common.{◌≡◌, ℕ, ◌+◌, ◌≤◌, ◌<◌, Bool, true, false, List, ◌++◌, length, refl, sym, ap, subst, ◌∙◌, arith, append_assoc, length-append}
-use Rattle.mdb_base.proofs.ListLaws.{each_map}
+use Rattle.mdb_base.proofs.ForCallers.{each_map}
 use Rattle.fed_rules.specs.declared.commands.Command.{Command}
 use Rattle.fed_rules.specs.Closing.{closed, finished_alone, is_done}
 use Rattle.fed_rules.specs.Story.{most_attempts, story_of}
-use Rattle.rules_laws.proofs.Commands.{begins_nothing}
+use Rattle.rules_laws.proofs.ForCallers.{begins_nothing}
 use Rattle.closing_laws.specs.AtRest.{ClosedSessionsRest}
 use Rattle.closing_laws.specs.Bound.{ClosingIsShort, FinishingIsShort, most_closing}
 use Rattle.closing_laws.specs.Finished.{AllFinished, FinishedSessionsCommit, HaveAttemptsLeft, begun}

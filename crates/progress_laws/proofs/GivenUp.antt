@@ -3,9 +3,8 @@ use Rattle.std.proofs.Common.{◌≡◌, ◌⊎◌, Bool, true, false, cond, Lis
 use Rattle.mdb_base.specs.declared.names.Tid.{Tid}
 use Rattle.mdb_base.specs.Names.{same_tid}
 use Rattle.mdb_base.specs.Words.{some_of, when}
-use Rattle.mdb_base.proofs.NameLaws.{same_tid-refl}
-use Rattle.mdb_base.proofs.ListLaws.{among_some}
-use Rattle.order_laws.proofs.Lists.{is_among}
+use Rattle.mdb_base.proofs.ForCallers.{among_some, same_tid-refl}
+use Rattle.order_laws.proofs.ForCallers.{is_among}
 use Rattle.fed_rules.specs.declared.answers.Answer.TheVariants as Say
 use Rattle.fed_rules.specs.declared.answers.Cause.TheVariants as For
 use Rattle.fed_rules.specs.declared.commands.Command.{Command}
@@ -22,11 +21,9 @@ use Rattle.fed_rules.specs.Scenarios.{policy, protocols}
 use Rattle.fed_rules.specs.SitePast.{records, trip}
 use Rattle.fed_rules.specs.SiteRecords.{Home, doubt_of}
 use Rattle.fed_rules.specs.Story.{AtCoordinator, coord_past, coord_requested, happens, on_attempt, past_of, story_of, with_coordinator, with_site}
-use Rattle.commit_laws.proofs.Agreed.{coord-sound}
-use Rattle.commit_laws.proofs.PreparedLaws.{nowhere}
-use Rattle.coord_laws.proofs.Begun.{begun_in}
-use Rattle.coord_laws.proofs.Facts.{is_undecided}
-use Rattle.closing_laws.proofs.Calm.{IsReady, lates, ready_next}
+use Rattle.commit_laws.proofs.ForCallers.{coord-sound, nowhere}
+use Rattle.coord_laws.proofs.ForCallers.{begun_in, is_undecided}
+use Rattle.closing_laws.proofs.ForCallers.{IsReady, lates, ready_next}
 use Rattle.progress_laws.specs.Progress.{DoubtsEndInFour, DoubtsEndInThree, EndsDoubt}
 
 module _ (scenario : Scenario) (commands : List Command) (tid : Tid) (undecided : is_open (coord_past (story_of scenario commands)) tid ≡ true)

@@ -1,5 +1,6 @@
+pub mod ForCallers
 mod Adds
-pub mod BegunNone
+mod BegunNone
 mod Doubts
 mod Finishes
 mod GivenUp

@@ -7,8 +7,7 @@ use Rattle.fed_rules.specs.declared.scenario.Scenario.{Scenario}
 use Rattle.fed_rules.specs.Plans.{IsScenario}
 use Rattle.fed_rules.specs.SiteRecords.{Home}
 use Rattle.fed_rules.specs.Story.{most_attempts}
-use Rattle.fed_rules.proofs.Opened.{opened}
-use Rattle.fed_rules.proofs.Spelled.{at, tid, set, site, step_at, global, scenario_of, go, give, take}
+use Rattle.fed_rules.proofs.ForCallers.{at, give, global, go, opened, scenario_of, set, site, step_at, take, tid}
 use Rattle.closing_laws.specs.Finished.{begun}
 use Rattle.progress_laws.specs.Progress.{answer_given, taken}
 use Rattle.progress_laws.specs.WrongRules.{LeavesADoubt, LeavesADoubtUndecided, LeavesUncommitted, LeavesUnsettled, closed_alone}

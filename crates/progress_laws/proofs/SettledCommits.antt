@@ -4,7 +4,7 @@ use Rattle.mdb_base.specs.declared.names.SiteId.{SiteId}
 use Rattle.mdb_base.specs.declared.names.Tid.{Tid}
 use Rattle.mdb_base.specs.declared.rows.Put.{Put}
 use Rattle.mdb_base.specs.Names.{same_tid}
-use Rattle.mdb_base.proofs.NameLaws.{same_tid-equal, same_tid-refl}
+use Rattle.mdb_base.proofs.ForCallers.{same_tid-equal, same_tid-refl}
 use Rattle.order_laws.specs.Chains.{In}
 use Rattle.presumptions.specs.declared.Decision.TheVariants as Decided
 use Rattle.fed_rules.specs.declared.records.SiteRecord.{SiteRecord}
@@ -20,12 +20,9 @@ use Rattle.fed_rules.specs.Story.{Story, past_of, story_of}
 use Rattle.site_history.specs.Records.{TellOutcomes}
 use Rattle.federation_laws.specs.OneOrder.{AllAreOrdered}
 use Rattle.federation_laws.specs.Parts.{CommitsAgree}
-use Rattle.federation_laws.proofs.Declared.{member-declared}
-use Rattle.federation_laws.proofs.SiteParts.{tells-outcomes}
-use Rattle.federation_laws.proofs.StoryGlobals.{story-holds}
-use Rattle.federation_laws.proofs.Told.{home-again}
+use Rattle.federation_laws.proofs.ForCallers.{home-again, member-declared, story-holds, tells-outcomes}
 use Rattle.closing_laws.specs.AtRest.{IsAtRest}
-use Rattle.closing_laws.proofs.Inquire.{doubt_listed}
+use Rattle.closing_laws.proofs.ForCallers.{doubt_listed}
 use Rattle.progress_laws.specs.Settled.{CommitsAreSettledAtRest}
 
 -- where each Ended record says the outcome, which is commit, and an attempt was prepared and is in doubt no more, an Ended record of it says commit

@@ -4,7 +4,7 @@ use Rattle.mdb_base.specs.declared.names.SiteId.{SiteId}
 use Rattle.mdb_base.specs.declared.names.Tid.{Tid}
 use Rattle.mdb_base.specs.Names.{same_site}
 use Rattle.mdb_base.specs.Words.{Each, some_of, found, holds_of, those, with_some}
-use Rattle.mdb_base.proofs.BoolLaws.{and_true, and_false}
+use Rattle.mdb_base.proofs.ForCallers.{and_false, and_true}
 use Rattle.presumptions.specs.declared.Decision.{Decision}
 use Rattle.presumptions.specs.declared.Participant.{Participant}
 use Rattle.presumptions.specs.declared.Protocol.{Protocol}

@@ -1,7 +1,8 @@
-pub mod Agreeing
-pub mod Going
-pub mod Keeps
-pub mod Named
-pub mod Required
-pub mod Words
-pub mod Written
+pub mod ForCallers
+mod Agreeing
+mod Going
+mod Keeps
+mod Named
+mod Required
+mod Words
+mod Written

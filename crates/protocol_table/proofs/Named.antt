@@ -5,8 +5,7 @@ use Rattle.std.specs.Map.{keys_of, values_of, lookup, remove_entry, set_value}
 use Rattle.mdb_base.specs.declared.names.Tid.{Tid}
 use Rattle.mdb_base.specs.Names.{same_tid}
 use Rattle.mdb_base.specs.Words.{Each}
-use Rattle.mdb_base.proofs.ListLaws.{append_each}
-use Rattle.mdb_base.proofs.NameLaws.{same_tid-equal, same_tid-sym}
+use Rattle.mdb_base.proofs.ForCallers.{append_each, same_tid-equal, same_tid-sym}
 use Rattle.indexmap.specs.IndexMap.{insert_entry}
 use Rattle.protocol_table.specs.declared.entries.Name.{Name}
 use Rattle.protocol_table.specs.declared.known.Known.{Known}

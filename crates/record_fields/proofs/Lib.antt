@@ -1,3 +1,4 @@
-pub mod Joined
-pub mod Loop
-pub mod Sizes
+pub mod ForCallers
+mod Joined
+mod Loop
+mod Sizes

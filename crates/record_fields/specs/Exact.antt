@@ -2,8 +2,8 @@
 use Rattle.std.specs.Prelude.{ℕ, ◌≡◌, ◌<◌, ◌^◌, List, [], ◌∷◌, ◌++◌, Option, Some, None, refl}
 use Rattle.std.proofs.Common.{ap, subst, ◌∙◌, append_assoc}
 use Rattle.byte_numbers.specs.Numbers.{Takes, number, number_at, ◌>>=◌}
-use Rattle.byte_numbers.proofs.Numbers.{number_takes, number_again}
-use Rattle.field_bytes.proofs.Steps.{bind_some, takes_both}
+use Rattle.byte_numbers.proofs.ForCallers.{number_again, number_takes}
+use Rattle.field_bytes.proofs.ForCallers.{bind_some, takes_both}
 use Rattle.record_fields.specs.Field.{Field, IsExact, a_number, coded, with_rest, both, made, at_end}
 
 pub some_is : {A : Type 0} (x y : A) → ◌≡◌ {A = Option A} (Some x) (Some y) → x ≡ y

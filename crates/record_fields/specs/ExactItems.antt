@@ -5,12 +5,12 @@ use Rattle.std.proofs.Common.{ap, subst, ◌∙◌, ltb, append_assoc, arith}
 use Rattle.std.proofs.lemmas.Bool.{and_parts, ltb-true, lt-ltb}
 use Rattle.mdb_base.specs.Rising.{IsRising}
 use Rattle.byte_numbers.specs.Numbers.{IsBytes, Takes, number, number_at, ◌>>=◌}
-use Rattle.byte_numbers.proofs.Numbers.{number_takes, number_again}
+use Rattle.byte_numbers.proofs.ForCallers.{number_again, number_takes}
 use Rattle.record_fields.specs.Field.{Field, IsExact}
 use Rattle.record_fields.specs.Items.{joined, items_at, rises, rising_at, rising_list}
-use Rattle.field_bytes.proofs.Steps.{bind_some, takes_both}
+use Rattle.field_bytes.proofs.ForCallers.{bind_some, takes_both}
 use Rattle.record_fields.specs.Exact.{some_is}
-use Rattle.mdb_base.proofs.OptionLaws.{cond_some}
+use Rattle.mdb_base.proofs.ForCallers.{cond_some}
 
 -- fewer than two items rise
 pub short_rises : {A : Type 0} (key : A → ℕ) (xs : List A) → length xs < 2 → rises key xs ≡ true

@@ -7,11 +7,11 @@ use Rattle.mdb_base.specs.declared.names.Engine.{Engine}
 use Rattle.mdb_base.specs.declared.names.Engine.TheVariants.{Locking, Timestamp, Validation, Multiversion}
 use Rattle.presumptions.specs.declared.Protocol.{Protocol}
 use Rattle.presumptions.specs.declared.Protocol.TheVariants as By
-use Rattle.field_bytes.proofs.Laws.{tid_takes, tid_again, decision_takes, decision_again}
+use Rattle.field_bytes.proofs.ForCallers.{decision_again, decision_takes, tid_again, tid_takes}
 use Rattle.record_fields.specs.Field.{IsExact, a_number, both}
 use Rattle.record_fields.specs.Exact.{some_is, IsCode, exact_number, exact_both, exact_made, exact_coded}
 use Rattle.record_fields.specs.ExactItems.{exact_rising}
-use Rattle.mdb_base.proofs.OptionLaws.{cond_some}
+use Rattle.mdb_base.proofs.ForCallers.{cond_some}
 use Rattle.record_fields.specs.Named.{IsSite, site_of, a_site, engine_code, engine_of, an_engine, protocol_code, protocol_of, a_protocol, a_tid, a_decision, a_put, a_participant, a_ticket, writes, participants, tickets}
 
 site_code : IsCode 1 (λ (site : SiteId). site.0) site_of IsSite

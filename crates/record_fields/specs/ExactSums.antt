@@ -3,8 +3,8 @@ use Rattle.std.specs.Prelude.{ℕ, ◌≡◌, Bool, true, false, cond, List, ◌
 use Rattle.std.proofs.Common.{ap, subst, ◌∙◌, eqb, append_assoc, arith}
 use Rattle.std.proofs.lemmas.Bool.{eqb-true}
 use Rattle.byte_numbers.specs.Numbers.{Takes, number, number_at, ◌>>=◌}
-use Rattle.byte_numbers.proofs.Numbers.{number_takes, number_again}
-use Rattle.field_bytes.proofs.Steps.{bind_some, takes_both}
+use Rattle.byte_numbers.proofs.ForCallers.{number_again, number_takes}
+use Rattle.field_bytes.proofs.ForCallers.{bind_some, takes_both}
 use Rattle.record_fields.specs.Field.{Field, IsExact, a_number, both}
 use Rattle.record_fields.specs.Exact.{some_is, exact_number, exact_both, exact_made}
 use Rattle.record_fields.specs.ExactItems.{exact_rising}

@@ -7,8 +7,7 @@ use Rattle.fed_rules.specs.declared.commands.Command.{Command}
 use Rattle.fed_rules.specs.declared.scenario.Scenario.{Scenario}
 use Rattle.fed_rules.specs.Closing.{closed, finished_alone}
 use Rattle.fed_rules.specs.Plans.{IsScenario}
-use Rattle.fed_rules.proofs.Opened.{opened}
-use Rattle.fed_rules.proofs.Spelled.{set, site, step_at, global, scenario_of, go, give, take, halt}
+use Rattle.fed_rules.proofs.ForCallers.{give, global, go, halt, opened, scenario_of, set, site, step_at, take}
 use Rattle.refuted_rules.specs.Bounds.{ClosesLater, FinishesLater, one_for_each, as_if_all_were_local}
 
 abbrev eight_sites : Scenario

@@ -6,8 +6,7 @@ use Rattle.presumptions.specs.declared.Protocol.TheVariants as By
 use Rattle.fed_rules.specs.declared.commands.Command.{Command}
 use Rattle.fed_rules.specs.declared.scenario.Scenario.{Scenario}
 use Rattle.fed_rules.specs.Plans.{IsScenario}
-use Rattle.fed_rules.proofs.Opened.{opened}
-use Rattle.fed_rules.proofs.Spelled.{at, tid, set, site, step_at, global, scenario_of, go, give, take, trip, halt}
+use Rattle.fed_rules.proofs.ForCallers.{at, give, global, go, halt, opened, scenario_of, set, site, step_at, take, tid, trip}
 use Rattle.refuted_rules.specs.Closings.{LeavesNoRest, closed_without_disarming, closed_without_clearing, closed_without_ending, closed_without_inquiries, closed_by_asking_first}
 
 abbrev one_site : Protocol → Scenario

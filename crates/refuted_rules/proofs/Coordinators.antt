@@ -8,8 +8,7 @@ use Rattle.presumptions.specs.declared.Protocol.{Protocol}
 use Rattle.presumptions.specs.declared.Protocol.TheVariants as By
 use Rattle.fed_rules.specs.declared.commands.Command.{Command}
 use Rattle.fed_rules.specs.declared.scenario.Scenario.{Scenario}
-use Rattle.fed_rules.proofs.Opened.{opened}
-use Rattle.fed_rules.proofs.Spelled.{at, tid, set, site, step_at, global, scenario_of, go, give, take, fate, halt, back}
+use Rattle.fed_rules.proofs.ForCallers.{at, back, fate, give, global, go, halt, opened, scenario_of, set, site, step_at, take, tid}
 use Rattle.coord_laws.specs.Laws.{KnownAreBegun, UndecidedAreUnmarked, DecisionsAreOutcomes, DecidedAreAwaited, RecordsNameParticipants, RecordedAreBegun, CommitOnce}
 use Rattle.refuted_rules.specs.Coordinators.{BreaksTheFact, commits_unrecorded, commits_recorded_early, fates_of_unbegun_recorded, initiations_name_every_site, repeated_votes_commit_again}
 

@@ -4,14 +4,13 @@ use Rattle.mdb_base.specs.declared.names.Engine.TheVariants.{Locking}
 use Rattle.mdb_base.specs.declared.replies.Edge.{Edge}
 use Rattle.presumptions.specs.declared.Protocol.TheVariants as By
 use Rattle.order_laws.specs.Tickets.{Ticketed, IsCycle, HasNoCycle}
-use Rattle.order_laws.proofs.Tickets.{cycle_found}
+use Rattle.order_laws.proofs.ForCallers.{cycle_found}
 use Rattle.fed_rules.specs.declared.commands.Command.{Command}
 use Rattle.fed_rules.specs.declared.scenario.Scenario.{Scenario}
 use Rattle.fed_rules.specs.CoordPast.{records}
 use Rattle.fed_rules.specs.CoordRecords.{commits}
 use Rattle.fed_rules.specs.Story.{coord_past}
-use Rattle.fed_rules.proofs.Opened.{opened}
-use Rattle.fed_rules.proofs.Spelled.{edge, tid, set, site, step_at, global, scenario_of, go, give, take, ticket, voted}
+use Rattle.fed_rules.proofs.ForCallers.{edge, give, global, go, opened, scenario_of, set, site, step_at, take, ticket, tid, voted}
 use Rattle.coord_laws.specs.Laws.{CommitsCloseNoCycle}
 use Rattle.commit_laws.specs.WrongRules.{story_by}
 use Rattle.federation_laws.specs.WrongRules.{commits_without_graph}

@@ -1,10 +1,10 @@
-pub mod Bounds
-pub mod Closings
-pub mod Coordinators
-pub mod Disks
-pub mod Graphs
-pub mod Orders
-pub mod Policies
-pub mod Rows
-pub mod Sites
-pub mod Unmade
+mod Bounds
+mod Closings
+mod Coordinators
+mod Disks
+mod Graphs
+mod Orders
+mod Policies
+mod Rows
+mod Sites
+mod Unmade

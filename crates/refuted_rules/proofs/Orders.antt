@@ -2,7 +2,7 @@
 use Rattle.std.proofs.Common.{◌≡◌, true, refl, subst}
 use Rattle.mdb_base.specs.Names.{same_tid}
 use Rattle.order_laws.specs.Orders.{Ranks}
-use Rattle.fed_rules.proofs.Spelled.{tid}
+use Rattle.fed_rules.proofs.ForCallers.{tid}
 use Rattle.refuted_rules.specs.Orders.{of_lesser_transaction}
 
 pub not_ranked : Ranks of_lesser_transaction → ⊥

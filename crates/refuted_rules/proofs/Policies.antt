@@ -3,9 +3,8 @@ use Rattle.std.proofs.Common.{List, map, refl, arith}
 use Rattle.fed_rules.specs.declared.commands.Command.{Command}
 use Rattle.fed_rules.specs.declared.scenario.Scenario.{Scenario}
 use Rattle.fed_rules.specs.Plans.{IsScenario}
-use Rattle.fed_rules.proofs.Opened.{opened}
-use Rattle.fed_rules.proofs.OppositeTickets as Opposite
-use Rattle.fed_rules.proofs.Spelled.{before, conservatively}
+use Rattle.fed_rules.proofs.ForCallers.{before, conservatively, opened}
+use Rattle.fed_rules.proofs.ForCallers as Opposite
 use Rattle.refuted_rules.specs.Policies.{RefusesConservatively, tickets_at_once}
 
 abbrev scenario : Scenario

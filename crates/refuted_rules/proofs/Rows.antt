@@ -4,7 +4,7 @@ use Rattle.mdb_base.specs.declared.acts.PlainAct.TheVariants.{Write}
 use Rattle.mdb_base.specs.declared.names.Engine.TheVariants.{Locking}
 use Rattle.mdb_base.specs.declared.replies.Reply.TheVariants.{Done}
 use Rattle.fed_rules.specs.Runs.{Wrote, Begins, Acts, Seals, Commits}
-use Rattle.fed_rules.proofs.Spelled.{key, tid}
+use Rattle.fed_rules.proofs.ForCallers.{key, tid}
 use Rattle.refuted_rules.specs.Rows.{MissesTheTable, DoesNotRise, rows_of_the_start, puts_as_made}
 
 pub commit_missed : MissesTheTable rows_of_the_start

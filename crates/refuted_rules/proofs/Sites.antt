@@ -6,8 +6,7 @@ use Rattle.fed_rules.specs.declared.commands.Command.{Command}
 use Rattle.fed_rules.specs.declared.scenario.Scenario.{Scenario}
 use Rattle.fed_rules.specs.declared.sums.SiteSum.{SiteSum}
 use Rattle.fed_rules.specs.SiteRecords.{Home}
-use Rattle.fed_rules.proofs.Opened.{opened}
-use Rattle.fed_rules.proofs.Spelled.{at, tid, set, site, step_at, global, local, scenario_of, entry, go, give, take, late, begin, step, commit, check}
+use Rattle.fed_rules.proofs.ForCallers.{at, begin, check, commit, entry, give, global, go, late, local, opened, scenario_of, set, site, step, step_at, take, tid}
 use Rattle.refuted_rules.specs.Sites.{LeavesAClosedRunLive, LeavesItsFirstRows, MissesWhatWasTrimmed, closed_attempts_begin}
 
 abbrev roaming : Scenario

@@ -14,10 +14,9 @@ use Rattle.fed_rules.specs.CoordPast.{CoordHappening, CoordPast}
 use Rattle.fed_rules.specs.Policies.{Policy}
 use Rattle.fed_rules.specs.Scenarios.{policy, protocols}
 use Rattle.fed_rules.specs.Story.{coord_past}
-use Rattle.fed_rules.proofs.Opened.{opened}
-use Rattle.fed_rules.proofs.Spelled.{set, site, step_at, global, scenario_of, go, give, take}
+use Rattle.fed_rules.proofs.ForCallers.{give, global, go, opened, scenario_of, set, site, step_at, take}
 use Rattle.coord_laws.specs.Pasts.{IsMadeByEvents}
-use Rattle.coord_laws.proofs.MadeLines.{coord_made}
+use Rattle.coord_laws.proofs.ForCallers.{coord_made}
 use Rattle.commit_laws.specs.WrongRules.{story_by, commits_forgotten_at_once}
 use Rattle.refuted_rules.specs.Coordinators.{IsMadeByNoEvents}
 

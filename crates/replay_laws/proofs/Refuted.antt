@@ -8,9 +8,8 @@ use Rattle.fed_rules.specs.declared.answers.Answer.TheVariants as Say
 use Rattle.fed_rules.specs.declared.answers.Cause.TheVariants as For
 use Rattle.fed_rules.specs.declared.commands.Line.{Line}
 use Rattle.fed_rules.specs.Right.{story_told}
-use Rattle.fed_rules.proofs.Opened.{opened}
-use Rattle.fed_rules.proofs.OppositeTickets as Opposite
-use Rattle.fed_rules.proofs.Spelled.{before, edge, line, place, scenario_of, take, tid, trip}
+use Rattle.fed_rules.proofs.ForCallers.{before, edge, line, opened, place, scenario_of, take, tid, trip}
+use Rattle.fed_rules.proofs.ForCallers as Opposite
 use Rattle.replay_laws.specs.WrongRules.{AddsAtRest, NextLinesDiffer, disarmed_always}
 
 pub added_at_rest : AddsAtRest disarmed_always

@@ -5,13 +5,11 @@ use Rattle.mdb_base.specs.declared.names.Tid.{Tid}
 use Rattle.mdb_base.specs.declared.replies.Edge.{Edge}
 use Rattle.mdb_base.specs.Words.{those}
 use Rattle.order_laws.specs.Chains.{In}
-use Rattle.order_laws.proofs.Reversed.{map_reverse}
+use Rattle.order_laws.proofs.ForCallers.{in_those, map_reverse, none_pass}
 use Rattle.std.proofs.lemmas.List.{reverse-reverse}
-use Rattle.order_laws.proofs.Lists.{in_those}
-use Rattle.rules_laws.proofs.RisingLists.{rising_in}
+use Rattle.rules_laws.proofs.ForCallers.{rising_in}
 use Rattle.presumptions.specs.declared.Decision.{Decision}
 use Rattle.presumptions.specs.declared.Participant.{Participant}
-use Rattle.order_laws.proofs.InLaws.{none_pass}
 use Rattle.fed_rules.specs.declared.answers.Answer.{Answer}
 use Rattle.fed_rules.specs.declared.answers.Answer.TheVariants as Say
 use Rattle.fed_rules.specs.declared.answers.Cause.TheVariants as For

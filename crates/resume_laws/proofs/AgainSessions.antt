@@ -4,10 +4,9 @@ use Rattle.std.proofs.lemmas.Bool.{leb-true}
 use Rattle.mdb_base.specs.declared.names.SiteId.{SiteId}
 use Rattle.mdb_base.specs.declared.names.Tid.{Tid}
 use Rattle.mdb_base.specs.Words.{Each, found as each_found, with_some}
-use Rattle.mdb_base.proofs.OptionLaws.{some_parts}
-use Rattle.mdb_base.proofs.EachLaws.{each_of_found}
+use Rattle.mdb_base.proofs.ForCallers.{each_of_found, some_parts}
 use Rattle.order_laws.specs.Chains.{In}
-use Rattle.order_laws.proofs.Lists.{each_at, each_from}
+use Rattle.order_laws.proofs.ForCallers.{each_at, each_from}
 use Rattle.presumptions.specs.declared.Participant.{Participant}
 use Rattle.fed_rules.specs.declared.commands.Command.{Command}
 use Rattle.fed_rules.specs.declared.records.CoordRecord.{CoordRecord}
@@ -27,26 +26,18 @@ use Rattle.fed_rules.specs.SitePast as Site
 use Rattle.fed_rules.specs.SiteRecords.{Home, epoch_of, site_frame}
 use Rattle.fed_rules.specs.Story.{AtCoordinator, AtSite, Happened, Nowhere, Story, coord_past, happens, past_of, story_in, with_coordinator}
 use Rattle.fed_rules.specs.Usable.{AreUnnamed, IsUsableCoordinator, IsUsableSite, home_of_first, read}
-use Rattle.rules_laws.proofs.Scenarios.{MembersRise}
-use Rattle.commit_laws.proofs.FoundSessions.{session_goes_on}
-use Rattle.commit_laws.proofs.Links.{IsNext, its-site, linked, member_of}
-use Rattle.closing_laws.proofs.Declared.{member_home}
+use Rattle.rules_laws.proofs.ForCallers.{MembersRise}
+use Rattle.commit_laws.proofs.ForCallers.{IsNext, its-site, linked, member_of, protocols_rise, rising_on, rising_over, session_goes_on}
+use Rattle.closing_laws.proofs.ForCallers.{member_home}
 use Rattle.coord_laws.specs.FoundCoordinators.{RiseBySite}
-use Rattle.coord_laws.proofs.CoordRestarts.{going_tells}
-use Rattle.commit_laws.proofs.Declared.{protocols_rise, rising_on, rising_over}
-use Rattle.sum_laws.proofs.ReadAs.{coordinators_read}
-use Rattle.sum_laws.proofs.ReadAs.{some_coord_frame}
+use Rattle.coord_laws.proofs.ForCallers.{going_tells}
+use Rattle.sum_laws.proofs.ForCallers.{coordinators_read, some_coord_frame}
 use Rattle.resume_laws.specs.Again.{HasRoom, StoppedSessionsKeepOutcomes, StoppedSessionsRest, UsableSessionsLeaveUsable, left_again}
 use Rattle.found_laws.specs.FoundSessions.{AreOfDisks, AreUsable, IsOfFormat}
 use Rattle.resume_laws.proofs.CoordAgain as CoordinatorAgain
 use Rattle.resume_laws.proofs.CoordMore.{IsGoingCoord}
-use Rattle.found_laws.proofs.FoundHomes.{IsFound, same_members}
-use Rattle.found_laws.proofs.FoundSessions.{all_sorted, begins, fits, nobody_first, nobody_on, opened, plan_sites, resumes}
+use Rattle.found_laws.proofs.ForCallers.{IsFound, IsInRange, all_sorted, begins, begins_nothing, fits, idle, members_range, nobody_first, nobody_on, opened, outcomes_on, plan_sites, resumes, rise_all, same_home, same_members}
 use Rattle.resume_laws.proofs.FoundRests.{sessions_rest}
-use Rattle.found_laws.proofs.Idle.{begins_nothing, idle}
-use Rattle.found_laws.proofs.OutcomeWalk.{outcomes_on}
-use Rattle.found_laws.proofs.PlanSites.{IsInRange, members_range, rise_all}
-use Rattle.found_laws.proofs.FoundJournals.{same_home}
 use Rattle.resume_laws.proofs.SiteAgain.{journal_again}
 use Rattle.resume_laws.proofs.SiteGoes.{IsGoing, first_home}
 use Rattle.resume_laws.proofs.Stands as Disks

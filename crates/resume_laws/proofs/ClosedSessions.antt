@@ -5,7 +5,7 @@ use Rattle.fed_rules.specs.Resumed.{going_on}
 use Rattle.fed_rules.specs.Story.{story_in}
 use Rattle.closing_laws.specs.AtRest.{ClosedSessionsRest, ClosingStaysUp, IsAtRest, StaysUp}
 use Rattle.closing_laws.specs.Bound.{ClosingIsShort, most_closing}
-use Rattle.closing_laws.proofs.Bound.{session_short}
+use Rattle.closing_laws.proofs.ForCallers.{session_short}
 use Rattle.resume_laws.specs.Closed.{SessionsCloseAtRest, SessionsCloseShortly, SessionsStayUp}
 use Rattle.resume_laws.proofs.FoundFew.{found_few}
 use Rattle.resume_laws.proofs.FoundRests.{rests, stays_up}

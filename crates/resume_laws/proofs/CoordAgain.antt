@@ -5,7 +5,7 @@ use Rattle.mdb_base.specs.declared.names.Tid.{Tid}
 use Rattle.mdb_base.specs.declared.replies.Reply.{Reply}
 use Rattle.mdb_base.specs.Names.{same_tid}
 use Rattle.mdb_base.specs.Words.{Among, or_else, those, when, given}
-use Rattle.mdb_base.proofs.NameLaws.{same_tid-equal}
+use Rattle.mdb_base.proofs.ForCallers.{same_tid-equal}
 use Rattle.presumptions.specs.declared.Decision.{Decision}
 use Rattle.presumptions.specs.declared.Participant.{Participant}
 use Rattle.fed_rules.specs.declared.answers.Answer.TheVariants as Say
@@ -25,24 +25,14 @@ use Rattle.fed_rules.specs.Happenings.{is_down, quiet, stopped, tripped}
 use Rattle.fed_rules.specs.Policies.{Policy}
 use Rattle.fed_rules.specs.Reopened.{opened_coordinator}
 use Rattle.fed_rules.specs.Usable.{IsAttemptOf, IsEndOf, coord_read}
-use Rattle.rules_laws.proofs.CoordPasts.{BeginsNothing}
-use Rattle.coord_laws.proofs.RecordLists.{end_among}
-use Rattle.sum_laws.proofs.ReadAs.{some_coord_frame}
+use Rattle.rules_laws.proofs.ForCallers.{BeginsNothing}
+use Rattle.coord_laws.proofs.ForCallers.{IsTrimmed, among_end, any_member, end_among, going_journals_say_all, going_tells, is_fine, is_undecided, left_open, open_is, past_sound, standing_all, standing_trimmed, tidy_in_order, usable_go_on}
+use Rattle.sum_laws.proofs.ForCallers.{coordinators_read, some_coord_frame}
 use Rattle.coord_laws.specs.Pasts.{IsGoingOn, IsOpened}
-use Rattle.coord_laws.proofs.Facts.{is_undecided}
-use Rattle.coord_laws.proofs.Past.{any_member, past_sound}
 use Rattle.coord_laws.specs.CoordRestarts.{keeps, open_of, outcome_of}
 use Rattle.coord_laws.specs.FoundCoordinators.{RiseBySite}
-use Rattle.coord_laws.proofs.CoordOpened.{is_fine}
-use Rattle.coord_laws.proofs.CoordRead.{tidy_in_order}
-use Rattle.coord_laws.proofs.CoordRestarts.{going_journals_say_all, going_tells}
-use Rattle.coord_laws.proofs.CoordTold.{left_open, open_is}
-use Rattle.coord_laws.proofs.CoordTrims.{IsTrimmed, standing_all, standing_trimmed}
-use Rattle.sum_laws.proofs.ReadAs.{coordinators_read}
-use Rattle.coord_laws.proofs.UsableCoordinators.{usable_go_on}
-use Rattle.coord_laws.proofs.RecordLists.{among_end}
-use Rattle.disk_laws.proofs.CoordOrder.{past_ended}
-use Rattle.found_laws.proofs.CoordGentle.{NobodyIsOpen, closed_standing}
+use Rattle.disk_laws.proofs.ForCallers.{past_ended}
+use Rattle.found_laws.proofs.ForCallers.{NobodyIsOpen, closed_standing}
 use Rattle.resume_laws.proofs.CoordMore.{IsGoingCoord, coord_alone, coord_checked, coord_ended, coord_front}
 use Rattle.resume_laws.proofs.Stands as Disks
 

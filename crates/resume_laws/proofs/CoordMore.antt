@@ -4,10 +4,10 @@ use Rattle.std.proofs.Common.{◌≡◌, not, List, [], ◌∷◌, ◌++◌, map
 use Rattle.mdb_base.specs.declared.names.Tid.{Tid}
 use Rattle.mdb_base.specs.declared.names.Tx.{Tx}
 use Rattle.mdb_base.specs.Words.{Among, Each, those}
-use Rattle.mdb_base.proofs.ListLaws.{append_each, each_all}
+use Rattle.mdb_base.proofs.ForCallers.{append_each, each_all}
 use Rattle.order_laws.specs.Chains.{In}
 use Rattle.order_laws.specs.Tickets.{HasNoCycle}
-use Rattle.order_laws.proofs.Lists.{each_from}
+use Rattle.order_laws.proofs.ForCallers.{each_from}
 use Rattle.presumptions.specs.declared.Participant.{Participant}
 use Rattle.fed_rules.specs.declared.records.CoordRecord.{CoordRecord}
 use Rattle.fed_rules.specs.declared.records.CoordRecord.TheVariants.{Initiation, Commit, Abort, End, Checkpoint}
@@ -19,14 +19,8 @@ use Rattle.fed_rules.specs.CoordSums.{committed_with, coord_sum, open_with}
 use Rattle.fed_rules.specs.Reopened.{commit_read, coord_sum_read, end_read, initiation_read, is_open_in}
 use Rattle.fed_rules.specs.Usable.{CommitOnce, CoordSumsFit, IsAttemptOf, IsCoordBelow, IsDeclaredAt, IsEndOf, IsSumOfOpen, IsTicketBelow, IsUsableCoordinator, NamesSites, StandInOrder, coord_read}
 use Rattle.coord_laws.specs.FoundCoordinators.{MembersRise, RiseBySite}
-use Rattle.coord_laws.proofs.CoordRead.{order_behind}
-use Rattle.coord_laws.proofs.Cycles.{commit_behind}
-use Rattle.disk_laws.proofs.CoordFormat.{HasRisingMembers, opened_rising}
-use Rattle.disk_laws.proofs.CoordLeft.{IsNaming, committed_names, opened_names}
-use Rattle.disk_laws.proofs.CoordLists.{is_of_open}
-use Rattle.disk_laws.proofs.ReadRecords.{Behind, Commits, committed_from, open_from}
-use Rattle.disk_laws.proofs.CoordRead.{fewer_cycles, once_front, read_acyclic, read_once, sum_stands}
-use Rattle.disk_laws.proofs.Named.{older_fit, read_first, sum_names}
+use Rattle.coord_laws.proofs.ForCallers.{commit_behind, order_behind}
+use Rattle.disk_laws.proofs.ForCallers.{BehindSum, Commits, HasRisingMembers, IsNaming, committed_from, committed_names, fewer_cycles, is_of_open, older_fit, once_front, open_from, opened_names, opened_rising, read_acyclic, read_first, read_once, sum_names, sum_stands}
 
 pub read_more : (r next : CoordRecord) (older : List CoordRecord) → coord_read (r ∷ next ∷ older) ≡ r ∷ coord_read (next ∷ older)
 read_more (Initiation t ms) next older = refl
@@ -201,10 +195,10 @@ module _ (protocols : List Participant) where
         below = (below, tt);
         sums = tt;
         order = sum_stands protocols rs u.usable.once;
-        once = read_once protocols (Checkpoint sum ∷ rs) (Checkpoint sum ∷ coord_sum_read sum) (Behind [] rs refl refl) u.usable.once;
+        once = read_once protocols (Checkpoint sum ∷ rs) (Checkpoint sum ∷ coord_sum_read sum) (BehindSum [] rs refl refl) u.usable.once;
         sums_of_open = (of_open, tt);
         sites = (sites, tt);
-        cycle_free = read_acyclic protocols (Checkpoint sum ∷ rs) (Checkpoint sum ∷ coord_sum_read sum) (Behind [] rs refl refl) u.usable.cycle_free;
+        cycle_free = read_acyclic protocols (Checkpoint sum ∷ rs) (Checkpoint sum ∷ coord_sum_read sum) (BehindSum [] rs refl refl) u.usable.cycle_free;
       };
       members = (members, tt);
       names = λ tx m. by_both tx m;

@@ -6,22 +6,19 @@ use Rattle.mdb_base.specs.declared.rows.Put.{Put}
 use Rattle.mdb_base.specs.Names.{same_key, same_tid}
 use Rattle.mdb_base.specs.Rows.{look_up, with_rows}
 use Rattle.mdb_base.specs.Words.{Each}
-use Rattle.mdb_base.proofs.ListLaws.{each_inserted}
+use Rattle.mdb_base.proofs.ForCallers.{each_inserted}
 use Rattle.order_laws.specs.Chains.{In, Distinct}
-use Rattle.order_laws.proofs.Lists.{each_at}
+use Rattle.order_laws.proofs.ForCallers.{each_at}
 use Rattle.presumptions.specs.declared.Decision.TheVariants as Decided
 use Rattle.fed_rules.specs.declared.records.SiteRecord.{SiteRecord}
 use Rattle.fed_rules.specs.declared.records.SiteRecord.TheVariants as Rec
 use Rattle.fed_rules.specs.SiteRecords.{Held, Home, Install, by_number, doubt_of, doubts, due_installs, install_held, installs, rows_after, site_rows}
 use Rattle.fed_rules.specs.SiteSums.{carried, site_sum, sum_with}
 use Rattle.site_history.specs.Records.{BindOnce, TellOutcomes}
-use Rattle.site_history.proofs.Installs.{IsDoubtful, due_distinct, due_installed, installed_due, installs_distinct}
-use Rattle.site_history.proofs.SameLists.{InstallsFall, due_fall, installs_fall}
-use Rattle.engine_laws.proofs.Rows.{look_up_with_row}
-use Rattle.rules_laws.proofs.Doubts.{carried_none}
+use Rattle.site_history.proofs.ForCallers.{InstallsFall, IsDoubtful, carried_same, doubt_behind, due_distinct, due_fall, due_installed, goes_on_behind, installed_due, installs_distinct, installs_fall}
+use Rattle.engine_laws.proofs.ForCallers.{look_up_with_row}
+use Rattle.rules_laws.proofs.ForCallers.{carried_none}
 use Rattle.site_history.specs.Sums.{NoneIsOvertaken, StaysBelow}
-use Rattle.site_history.proofs.Behind.{carried_same, doubt_behind}
-use Rattle.site_history.proofs.Whole.{goes_on_behind}
 use Rattle.resume_laws.specs.Tables.{DoubtsAreClear, NumbersDiffer}
 
 -- ---- one falling list

@@ -4,13 +4,13 @@ use Rattle.mdb_base.specs.declared.names.Tid.{Tid}
 use Rattle.mdb_base.specs.declared.rows.Put.{Put}
 use Rattle.mdb_base.specs.Words.{Each}
 use Rattle.order_laws.specs.Chains.{In}
-use Rattle.order_laws.proofs.InLaws.{in_inserted}
+use Rattle.order_laws.proofs.ForCallers.{in_inserted}
 use Rattle.fed_rules.specs.declared.records.SiteRecord.{SiteRecord}
 use Rattle.fed_rules.specs.declared.records.SiteRecord.TheVariants.{Setup, Start, Prepared, Ended, Local, Checkpoint}
 use Rattle.fed_rules.specs.SiteRecords.{Install, by_number, due_installs}
 use Rattle.site_history.specs.Records.{BindOnce, IsBound}
-use Rattle.site_history.proofs.Installs.{install_before}
-use Rattle.disk_laws.proofs.SiteDrawers.{IsApartFrom, TellApart}
+use Rattle.site_history.proofs.ForCallers.{install_before}
+use Rattle.disk_laws.proofs.ForCallers.{IsApartFrom, TellApart}
 use Rattle.resume_laws.specs.Tables.{NumbersDiffer}
 
 -- where records with a number are of one attempt, one that is due with this number is of it

@@ -4,10 +4,9 @@ use Rattle.std.proofs.Common.{◌≡◌, ◌≤◌, Option, Some, None, List, []
 use Rattle.mdb_base.specs.declared.names.SiteId.{SiteId}
 use Rattle.mdb_base.specs.declared.names.Tid.{Tid}
 use Rattle.mdb_base.specs.Words.{Each, found as each_found, those, with_some}
-use Rattle.mdb_base.proofs.JoinLaws.{length-map}
-use Rattle.mdb_base.proofs.ListLaws.{append_each, each_filtered}
+use Rattle.mdb_base.proofs.ForCallers.{append_each, each_filtered, length-map}
 use Rattle.order_laws.specs.Chains.{In}
-use Rattle.order_laws.proofs.Lists.{each_at}
+use Rattle.order_laws.proofs.ForCallers.{each_at}
 use Rattle.fed_rules.specs.declared.answers.Answer.{Answer}
 use Rattle.fed_rules.specs.declared.answers.Answer.TheVariants as Say
 use Rattle.fed_rules.specs.declared.commands.Command.{Command}
@@ -32,29 +31,15 @@ use Rattle.fed_rules.specs.SitePast.{records}
 use Rattle.fed_rules.specs.SiteRecords.{Held, Home, doubt_of, doubts, prepared_tids}
 use Rattle.fed_rules.specs.Story.{AtCoordinator, AtSite, Happened, Nowhere, Story, coord_past, happens, past_of, story_in, with_coordinator}
 use Rattle.fed_rules.specs.Usable.{coord_read}
-use Rattle.rules_laws.proofs.CoordPasts.{BeginsNothing}
-use Rattle.rules_laws.proofs.EachAttempt.{each_distinct, with_in}
-use Rattle.coord_laws.proofs.CoordOpened.{read_is}
-use Rattle.coord_laws.proofs.Made.{Begins}
-use Rattle.coord_laws.proofs.MadeLines.{coord_made}
-use Rattle.coord_laws.proofs.OpenedPasts.{opened_begun}
-use Rattle.coord_laws.proofs.Past.{begin_once}
-use Rattle.coord_laws.proofs.UsableCoordinators.{names_declared}
-use Rattle.commit_laws.proofs.Declared.{protocols_rise}
-use Rattle.commit_laws.proofs.FoundSessions.{session_goes_on}
-use Rattle.commit_laws.proofs.Links.{IsNext, home-again, linked}
+use Rattle.rules_laws.proofs.ForCallers.{BeginsNothing, each_distinct, with_in}
+use Rattle.coord_laws.proofs.ForCallers.{Begins, begin_once, coord_made, names_declared, opened_begun, read_is}
+use Rattle.commit_laws.proofs.ForCallers.{IsNext, home-again, linked, protocols_rise, session_goes_on}
 use Rattle.found_laws.specs.Ranges.{AreInRange, CoordInRange, IsInRange, SiteInRange}
-use Rattle.closing_laws.proofs.Bound.{HasFew}
-use Rattle.closing_laws.proofs.FewSites.{at_most_eight}
-use Rattle.closing_laws.proofs.FewTids.{few_found, few_tids}
-use Rattle.closing_laws.proofs.Lengths.{length_rising, length_sorted}
-use Rattle.closing_laws.proofs.Quiet.{none_live_at}
+use Rattle.closing_laws.proofs.ForCallers.{HasFew, at_most_eight, few_found, few_tids, length_rising, length_sorted, none_live_at}
 use Rattle.found_laws.specs.FoundSessions.{AreUsable}
 use Rattle.resume_laws.proofs.CoordMore.{read_more}
-use Rattle.found_laws.proofs.FoundSessions.{begins, fits, plan_sites, resumed_from}
+use Rattle.found_laws.proofs.ForCallers.{begins, begins_nothing, fits, idle, plan_sites, resumed_from, rise_all}
 use Rattle.resume_laws.proofs.FoundRests.{lives_on}
-use Rattle.found_laws.proofs.Idle.{begins_nothing, idle}
-use Rattle.found_laws.proofs.PlanSites.{rise_all}
 use Rattle.resume_laws.proofs.SitePrepares.{doubt_has}
 
 -- ---- what the coordinator's records name

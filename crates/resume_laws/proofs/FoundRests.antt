@@ -9,7 +9,7 @@ use Rattle.fed_rules.specs.Sessions.{Session}
 use Rattle.fed_rules.specs.SiteRecords.{Home}
 use Rattle.fed_rules.specs.Story.{past_of, story_in}
 use Rattle.found_laws.specs.FoundSessions.{AreUsable}
-use Rattle.found_laws.proofs.FoundSessions.{fits, nobody_on, plan_sites, quiet, resumed_from}
+use Rattle.found_laws.proofs.ForCallers.{fits, nobody_on, plan_sites, quiet, resumed_from}
 use Rattle.closing_laws.specs.AtRest.{IsAtRest, StaysUp}
 use Rattle.resume_laws.specs.Rests.{UsableSessionsRest}
 use Rattle.resume_laws.proofs.Rest.{IsLifeless, closed_rests, closed_up}

@@ -5,9 +5,9 @@ use Rattle.mdb_base.specs.declared.names.Tid.{Tid}
 use Rattle.mdb_base.specs.Names.{same_site, same_tid}
 use Rattle.mdb_base.specs.Rows.{with_rows}
 use Rattle.mdb_base.specs.Words.{Among, Each}
-use Rattle.mdb_base.proofs.NameLaws.{same_site-equal}
+use Rattle.mdb_base.proofs.ForCallers.{same_site-equal}
 use Rattle.order_laws.specs.Chains.{In}
-use Rattle.order_laws.proofs.Lists.{bool_is, each_from}
+use Rattle.order_laws.proofs.ForCallers.{bool_is, each_from}
 use Rattle.presumptions.specs.declared.Decision.{Decision}
 use Rattle.presumptions.specs.declared.Participant.{Participant}
 use Rattle.presumptions.specs.Table.{presumed}
@@ -32,27 +32,19 @@ use Rattle.fed_rules.specs.SiteRecords.{Held, Home, doubt_of, doubts, installs}
 use Rattle.fed_rules.specs.SiteSums.{carried, site_sum}
 use Rattle.fed_rules.specs.Story.{AtCoordinator, AtSite, Happened, Nowhere, Story, coord_past, found_sites, happens, home_found, past_of, story_in, story_of, with_site}
 use Rattle.rules_laws.specs.Lines.{IsLine}
-use Rattle.rules_laws.proofs.Lines.{line_is}
-use Rattle.rules_laws.proofs.OpenedDisks.{expanded}
+use Rattle.rules_laws.proofs.ForCallers.{expanded, line_is}
 use Rattle.coord_laws.specs.Pasts.{IsOpened}
-use Rattle.site_history.proofs.OpenedPasts.{opened_is}
+use Rattle.site_history.proofs.ForCallers.{carried_same, opened_is, torn_short}
 use Rattle.commit_laws.specs.Forgetting.{PresumptionsAreRight}
-use Rattle.commit_laws.proofs.Declared.{is-declared, members_rise}
-use Rattle.commit_laws.proofs.FoundSessions.{CoordinatorFits}
-use Rattle.commit_laws.proofs.Links.{home-again, its-site}
-use Rattle.site_history.proofs.Behind.{carried_same}
-use Rattle.site_history.proofs.OpenedSites.{torn_short}
-use Rattle.closing_laws.proofs.Declared.{member_home}
+use Rattle.commit_laws.proofs.ForCallers.{CoordinatorFits, home-again, is-declared, its-site, members_rise}
+use Rattle.closing_laws.proofs.ForCallers.{member_home}
 use Rattle.resume_laws.specs.Outcomes.{OutcomesStay, SettlesAgree}
 use Rattle.resume_laws.specs.Premises.{SaysSame, coord_left, site_left}
 use Rattle.resume_laws.proofs.DueLists.{same_installs}
-use Rattle.found_laws.proofs.FoundHomes.{IsFound, each_homed, first_rows, found_past, homeless, no_past, same_members}
+use Rattle.found_laws.proofs.ForCallers.{IsFound, coord_records, each_homed, first_rows, found_past, homeless, idle, no_past, outcomes_on, same_members, session_begins}
 use Rattle.resume_laws.proofs.GentleClosing.{closing_gentle}
 use Rattle.resume_laws.proofs.Left.{left_right}
 use Rattle.resume_laws.proofs.OpensRight.{IsFoundRight, opens_right}
-use Rattle.found_laws.proofs.Opening.{coord_records, session_begins}
-use Rattle.found_laws.proofs.Idle.{idle}
-use Rattle.found_laws.proofs.OutcomeWalk.{outcomes_on}
 use Rattle.resume_laws.proofs.Walk.{ResumesIn, resumes_on}
 
 -- ---- who is in doubt by a journal, whatever its first rows

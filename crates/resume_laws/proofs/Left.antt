@@ -21,16 +21,9 @@ use Rattle.fed_rules.specs.SitePast.{records}
 use Rattle.fed_rules.specs.SiteRecords.{Held, Home, doubt_of}
 use Rattle.fed_rules.specs.Story.{coord_past, past_of, story_of}
 use Rattle.coord_laws.specs.Pasts.{IsMadeByEvents}
-use Rattle.coord_laws.proofs.Clear.{required_here}
-use Rattle.coord_laws.proofs.Facts.{kept_standing}
-use Rattle.coord_laws.proofs.Rules.{IsCalm, calm_standing}
+use Rattle.coord_laws.proofs.ForCallers.{IsCalm, calm_standing, kept_standing, required_here}
 use Rattle.commit_laws.specs.Forgetting.{PresumptionsAreRight}
-use Rattle.commit_laws.proofs.Agree.{Agrees, Prepares}
-use Rattle.commit_laws.proofs.Agreed.{agreed}
-use Rattle.commit_laws.proofs.Declared.{is-declared}
-use Rattle.commit_laws.proofs.Links.{member_of, story_made}
-use Rattle.commit_laws.proofs.SiteWork.{held-prepared}
-use Rattle.commit_laws.proofs.AgreeCoord.{presumed-or-kept}
+use Rattle.commit_laws.proofs.ForCallers.{Agrees, Prepares, agreed, held-prepared, is-declared, member_of, presumed-or-kept, story_made}
 
 -- a line that comes while the coordinator is down leaves it as it was, or brings it up or down
 data WhileDown (x : CoordHappening) : Type 0 where

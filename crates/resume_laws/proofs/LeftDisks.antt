@@ -21,30 +21,21 @@ use Rattle.fed_rules.specs.SiteRecords.{Home, epoch_of, installs}
 use Rattle.fed_rules.specs.SiteSums.{journal_sum, site_sum}
 use Rattle.fed_rules.specs.Story.{coord_past, past_of, story_of}
 use Rattle.fed_rules.specs.Usable.{AreUnnamed, IsUsableCoordinator, home_of_first, read}
-use Rattle.commit_laws.proofs.Links.{home-again}
-use Rattle.site_history.proofs.DeclaredHomes.{home_rises}
+use Rattle.commit_laws.proofs.ForCallers.{home-again}
+use Rattle.site_history.proofs.ForCallers.{home_rises, journals_say_all, of_events}
 use Rattle.site_history.specs.SiteOrders.{OfSortedEvents}
-use Rattle.site_history.proofs.SitesOfStories.{of_events}
 use Rattle.site_history.specs.Sums.{JournalSaysAll}
-use Rattle.site_history.proofs.SummedPasts.{journals_say_all}
-use Rattle.disk_laws.proofs.SiteBounds.{epoch_below}
-use Rattle.disk_laws.proofs.AllRules.{usable_coordinators, usable_sites}
-use Rattle.disk_laws.proofs.Apart.{locals_not_named}
-use Rattle.disk_laws.proofs.CoordFormat.{leave_members}
-use Rattle.disk_laws.proofs.SiteBounds.{AreBelow, pasts_below}
-use Rattle.rules_laws.proofs.PastLengths.{past_short}
-use Rattle.disk_laws.proofs.SiteFormat.{HasFormat, pasts_format}
-use Rattle.disk_laws.proofs.SiteLeft.{counts, first_founded, first_is}
-use Rattle.disk_laws.proofs.SiteRead.{Behind, Counts, Whole}
+use Rattle.disk_laws.proofs.ForCallers.{AreBelow, Behind, Counts, HasFormat, Whole, counts, epoch_below, first_founded, first_is, leave_members, locals_not_named, pasts_below, pasts_format, usable_coordinators, usable_sites}
+use Rattle.rules_laws.proofs.ForCallers.{past_short}
 use Rattle.resume_laws.specs.Again.{HasRoom, IsFoundAgain, LeftDisksAreFound, StopsKeepOutcomes, left_after, lines_of}
 use Rattle.found_laws.specs.FoundSessions.{AreUsable, IsOfFormat, RowsRise}
 use Rattle.resume_laws.proofs.AgainSessions.{disks_of, each_journal, sessions_leave_usable, stopped_keep_outcomes}
 use Rattle.resume_laws.proofs.FoundRests.{sessions_rest}
-use Rattle.mdb_base.proofs.ListLaws.{each_map}
+use Rattle.mdb_base.proofs.ForCallers.{each_map}
 use Rattle.fed_rules.specs.Endings.{outcome_in}
-use Rattle.engine_laws.proofs.Rows.{rising_rows_after}
+use Rattle.engine_laws.proofs.ForCallers.{rising_rows_after}
 use Rattle.resume_laws.proofs.GoesOn.{all_outcomes_stay, same_plan}
-use Rattle.found_laws.proofs.PlanSites.{protocols_rise}
+use Rattle.found_laws.proofs.ForCallers.{protocols_rise}
 use Rattle.resume_laws.proofs.Readable.{disks_readable}
 use Rattle.resume_laws.proofs.SiteGoes.{IsGoing, epoch_same}
 

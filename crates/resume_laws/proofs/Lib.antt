@@ -1,32 +1,33 @@
-pub mod AgainSessions
-pub mod ClosedSessions
-pub mod CoordAgain
-pub mod CoordMore
-pub mod DueLists
-pub mod DueNumbers
-pub mod FoundFew
-pub mod FoundRests
-pub mod GentleClosing
-pub mod GoesOn
-pub mod Left
-pub mod LeftDisks
-pub mod LiveWalk
-pub mod OpensRight
-pub mod Readable
-pub mod Rest
-pub mod RestsAgain
-pub mod Rightly
-pub mod Settling
-pub mod Stands
-pub mod SiteMore
-pub mod SumFacts
-pub mod SiteAgain
-pub mod SiteGentle
-pub mod SiteGoes
-pub mod SiteLives
-pub mod SitePrepares
-pub mod TablesAgain
-pub mod Tails
-pub mod Walk
-pub mod WorkedDisks
-pub mod WorkedStops
+pub mod ForCallers
+mod AgainSessions
+mod ClosedSessions
+mod CoordAgain
+mod CoordMore
+mod DueLists
+mod DueNumbers
+mod FoundFew
+mod FoundRests
+mod GentleClosing
+mod GoesOn
+mod Left
+mod LeftDisks
+mod LiveWalk
+mod OpensRight
+mod Readable
+mod Rest
+mod RestsAgain
+mod Rightly
+mod Settling
+mod Stands
+mod SiteMore
+mod SumFacts
+mod SiteAgain
+mod SiteGentle
+mod SiteGoes
+mod SiteLives
+mod SitePrepares
+mod TablesAgain
+mod Tails
+mod Walk
+mod WorkedDisks
+mod WorkedStops

@@ -2,10 +2,7 @@
 use Rattle.std.proofs.Common.{◌≡◌, inl, inr, Bool, true, false, cond, Some, None, List, [], ◌∷◌, ◌++◌, refl, sym, ap, subst, ◌∙◌}
 use Rattle.mdb_base.specs.Names.{same_site}
 use Rattle.mdb_base.specs.Words.{Each}
-use Rattle.mdb_base.proofs.OptionLaws.{some_parts}
-use Rattle.mdb_base.proofs.EachLaws.{among_split}
-use Rattle.mdb_base.proofs.JoinLaws.{append_nil}
-use Rattle.mdb_base.proofs.NameLaws.{same_site-equal}
+use Rattle.mdb_base.proofs.ForCallers.{among_split, append_nil, same_site-equal, some_parts}
 use Rattle.order_laws.specs.Chains.{In}
 use Rattle.fed_rules.specs.declared.commands.Command.{Command}
 use Rattle.fed_rules.specs.declared.messages.ToSite.{ToSite}
@@ -22,16 +19,13 @@ use Rattle.fed_rules.specs.SitePast.{SitePast, trip}
 use Rattle.fed_rules.specs.SiteRecords.{Home}
 use Rattle.fed_rules.specs.Story.{AtCoordinator, AtSite, Happened, Nowhere, Story, coord_past, found_sites, happens, past_of, sends_to, sent_to, story_in, with_coordinator, with_site}
 use Rattle.rules_laws.specs.Lines.{IsLine, SiteCause}
-use Rattle.rules_laws.proofs.Lines.{line_is}
-use Rattle.coord_laws.proofs.MadeLines.{coord_made}
-use Rattle.commit_laws.proofs.Links.{IsNext, linked}
-use Rattle.commit_laws.proofs.SiteShut.{restored-sealed}
+use Rattle.rules_laws.proofs.ForCallers.{line_is}
+use Rattle.coord_laws.proofs.ForCallers.{coord_made}
+use Rattle.commit_laws.proofs.ForCallers.{IsNext, linked, restored-sealed}
 use Rattle.resume_laws.specs.Gentle.{IsGentle}
-use Rattle.found_laws.proofs.CoordGentle.{IsDecide, NobodyIsOpen, decisions_alone, each_here, still_nobody}
-use Rattle.found_laws.proofs.Opening.{session_begins}
+use Rattle.found_laws.proofs.ForCallers.{IsDecide, IsIdle, NobodyIsOpen, begins_nothing, decisions_alone, each_here, session_begins, still_nobody}
 use Rattle.resume_laws.proofs.SiteGentle.{gentle_line, gentle_resumes}
 use Rattle.resume_laws.proofs.SiteLives.{NobodyLives, still_lifeless}
-use Rattle.found_laws.proofs.Idle.{IsIdle, begins_nothing}
 use Rattle.resume_laws.proofs.Walk.{of_cause}
 
 pub record IsDormant (home : Home) (past : CoordPast) (here : SitePast) (sent : List ToSite) : Type 0 where

@@ -17,7 +17,7 @@ use Rattle.fed_rules.specs.Sessions.{Session}
 use Rattle.fed_rules.specs.SitePast.{SitePast, records}
 use Rattle.fed_rules.specs.SiteRecords.{Held, Home, doubt_of}
 use Rattle.fed_rules.specs.Story.{found_sites, past_of, sent_from, sent_to, story_in}
-use Rattle.found_laws.proofs.Opening.{coord_records, session_begins, site_unsettled}
+use Rattle.found_laws.proofs.ForCallers.{coord_records, session_begins, site_unsettled}
 use Rattle.resume_laws.proofs.Settling.{IsRight, Resumes}
 use Rattle.resume_laws.proofs.Walk.{ResumesIn}
 

@@ -16,32 +16,21 @@ use Rattle.fed_rules.specs.SiteRecords.{Home}
 use Rattle.fed_rules.specs.SiteSums.{journal_sum, site_sum}
 use Rattle.fed_rules.specs.Story.{coord_past, home_found, past_of, story_of}
 use Rattle.site_history.specs.SiteOrders.{OfSortedEvents}
-use Rattle.site_history.proofs.SitesOfStories.{of_events, sites_serial}
-use Rattle.commit_laws.proofs.Links.{home-again, its-site, story_goes_on}
+use Rattle.site_history.proofs.ForCallers.{DoubtsFit, first_fit, journals_say_all, of_events, orders_past, reopened, sites_serial}
+use Rattle.commit_laws.proofs.ForCallers.{home-again, its-site, story_goes_on}
 use Rattle.coord_laws.specs.CoordRestarts.{TellsRecords}
 use Rattle.site_history.specs.FoundSites.{IsFoundSite}
 use Rattle.site_history.specs.Sums.{JournalSaysAll}
-use Rattle.coord_laws.proofs.CoordOpened.{read_is}
-use Rattle.coord_laws.proofs.CoordRestarts.{going_tells}
-use Rattle.site_history.proofs.InOrder.{DoubtsFit, first_fit}
-use Rattle.site_history.proofs.InOrderPasts.{orders_past}
-use Rattle.site_history.proofs.OpenedSites.{reopened}
-use Rattle.sum_laws.proofs.ReadAs.{coordinators_read, sites_read}
-use Rattle.site_history.proofs.SummedPasts.{journals_say_all}
-use Rattle.coord_laws.proofs.UsableCoordinators.{usable_go_on}
-use Rattle.disk_laws.proofs.AllRules.{usable_coordinators, usable_disks, usable_sites}
-use Rattle.disk_laws.proofs.CoordFormat.{leave_members}
-use Rattle.disk_laws.proofs.SiteDrawers.{TellApart, pasts_apart}
-use Rattle.disk_laws.proofs.SiteFormat.{HasFormat, pasts_format}
+use Rattle.coord_laws.proofs.ForCallers.{going_tells, read_is, usable_go_on}
+use Rattle.sum_laws.proofs.ForCallers.{coordinators_read, sites_read}
+use Rattle.disk_laws.proofs.ForCallers.{HasFormat, TellApart, leave_members, pasts_apart, pasts_format, usable_coordinators, usable_disks, usable_sites}
 use Rattle.resume_laws.specs.Premises.{CoordSaysSame, SaysSame, SiteSaysSame, coord_left, site_left}
 use Rattle.resume_laws.specs.Rightly.{DisksAreReadable, IsReadable, SessionsRest}
 use Rattle.resume_laws.specs.Tables.{TableFits}
 use Rattle.resume_laws.proofs.DueNumbers.{dues_differ}
-use Rattle.found_laws.proofs.FoundHomes.{parts_are}
-use Rattle.found_laws.proofs.FoundJournals.{same_home}
+use Rattle.found_laws.proofs.ForCallers.{parts_are, protocols_rise, same_home, sites_of_homes}
 use Rattle.resume_laws.proofs.GoesOn.{any_home, any_installs, each_found}
 use Rattle.resume_laws.proofs.RestsAgain.{all_rest}
-use Rattle.found_laws.proofs.PlanSites.{protocols_rise, sites_of_homes}
 
 -- ---- a site
 

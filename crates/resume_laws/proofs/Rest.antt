@@ -15,17 +15,11 @@ use Rattle.fed_rules.specs.Sessions.{Session}
 use Rattle.fed_rules.specs.SitePast.{is_local}
 use Rattle.fed_rules.specs.SiteRecords.{Home}
 use Rattle.fed_rules.specs.Story.{Story, coord_past, past_of, story_in}
-use Rattle.coord_laws.proofs.Facts.{is_undecided}
-use Rattle.commit_laws.proofs.FoundSessions.{CoordinatorFits}
-use Rattle.commit_laws.proofs.Links.{home-again}
+use Rattle.coord_laws.proofs.ForCallers.{is_undecided}
+use Rattle.commit_laws.proofs.ForCallers.{CoordinatorFits, home-again}
 use Rattle.closing_laws.specs.AtRest.{AllUp, IsAtRest, StaysUp}
-use Rattle.closing_laws.proofs.Closed.{calm_up}
-use Rattle.closing_laws.proofs.Onward.{IsCalm}
-use Rattle.closing_laws.proofs.Quiet.{none_live_at, nothing_passes, quiet_rests}
-use Rattle.found_laws.proofs.CoordGentle.{NobodyIsOpen}
-use Rattle.closing_laws.proofs.EndKnown.{IsUnknown, ended}
-use Rattle.closing_laws.proofs.Inquire.{settled}
-use Rattle.closing_laws.proofs.Ready.{UndeclaredAreSilent, brought_calm}
+use Rattle.closing_laws.proofs.ForCallers.{IsCalm, IsUnknown, UndeclaredAreSilent, brought_calm, calm_up, ended, none_live_at, nothing_passes, quiet_rests, settled}
+use Rattle.found_laws.proofs.ForCallers.{NobodyIsOpen}
 use Rattle.resume_laws.proofs.SiteLives.{NobodyLives}
 
 -- ---- what adds nothing

@@ -14,10 +14,8 @@ use Rattle.resume_laws.specs.Premises.{coord_left, site_left}
 use Rattle.resume_laws.specs.Rests.{ResumedSessionsRest}
 use Rattle.resume_laws.proofs.GentleClosing.{brought_gentle}
 use Rattle.resume_laws.proofs.GoesOn.{fits_left, home_before, never_happens}
-use Rattle.found_laws.proofs.Idle.{idle}
+use Rattle.found_laws.proofs.ForCallers.{idle, outcomes_on, session_begins}
 use Rattle.resume_laws.proofs.LiveWalk.{IsDormantIn, dormant_on, opens_dormant}
-use Rattle.found_laws.proofs.Opening.{session_begins}
-use Rattle.found_laws.proofs.OutcomeWalk.{outcomes_on}
 use Rattle.resume_laws.proofs.Rest.{closed_rests}
 
 pub all_rest : ResumedSessionsRest

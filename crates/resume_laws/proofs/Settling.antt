@@ -4,8 +4,7 @@ use Rattle.std.proofs.Common.{◌≡◌, ◌&&◌, ◌||◌, not, ◌⊎◌, inl
 use Rattle.mdb_base.specs.declared.names.SiteId.{SiteId}
 use Rattle.mdb_base.specs.declared.names.Tid.{Tid}
 use Rattle.mdb_base.specs.Words.{Among}
-use Rattle.mdb_base.proofs.NameLaws.{same_tid-refl}
-use Rattle.mdb_base.proofs.EachLaws.{among_split}
+use Rattle.mdb_base.proofs.ForCallers.{among_split, same_tid-refl}
 use Rattle.order_laws.specs.Chains.{In}
 use Rattle.presumptions.specs.declared.Decision.{Decision}
 use Rattle.presumptions.specs.declared.Participant.{Participant}
@@ -28,18 +27,10 @@ use Rattle.fed_rules.specs.Happenings.{comes_up, quiet, stops}
 use Rattle.fed_rules.specs.SitePast.{SiteHappening, SitePast, records, trip}
 use Rattle.fed_rules.specs.SiteRecords.{Home, doubt_of}
 use Rattle.fed_rules.specs.Usable.{IsEndOf}
-use Rattle.rules_laws.proofs.CoordPasts.{BeginsNothing}
-use Rattle.commit_laws.proofs.Links.{member_of}
-use Rattle.coord_laws.proofs.Clear.{ends_for, named_stays}
-use Rattle.coord_laws.proofs.Facts.{Decides, Forgets, IsEnding, IsOpen, IsTelling, Known, Now, Presumed, Restarts, Same, Starts, kept_standing}
-use Rattle.coord_laws.proofs.Lines.{Stood, Stopped, Through}
-use Rattle.coord_laws.proofs.Made.{IsMade}
-use Rattle.coord_laws.proofs.RecordLists.{end_among, nobody_none, those_among, among_end}
-use Rattle.coord_laws.proofs.Sound.{CoordSound, kept_from}
-use Rattle.coord_laws.proofs.Taken.{acked_taken}
-use Rattle.coord_laws.proofs.Turns.{Turn, same_outcome}
-use Rattle.commit_laws.proofs.AgreeCoord.{to_site, told-to}
-use Rattle.found_laws.proofs.CoordGentle.{AreDecisions, IsDecide, NobodyIsOpen, closed_standing, each_here, still_nobody}
+use Rattle.rules_laws.proofs.ForCallers.{BeginsNothing}
+use Rattle.commit_laws.proofs.ForCallers.{member_of, to_site, told-to}
+use Rattle.coord_laws.proofs.ForCallers.{CoordSound, Decides, Forgets, IsEnding, IsMade, IsOpen, IsTelling, Known, Now, Presumed, Restarts, Same, Starts, Stood, Stopped, Through, Turn, acked_taken, among_end, end_among, ends_for, kept_from, kept_standing, named_stays, nobody_none, same_outcome, those_among}
+use Rattle.found_laws.proofs.ForCallers.{AreDecisions, IsDecide, NobodyIsOpen, closed_standing, each_here, still_nobody}
 use Rattle.resume_laws.proofs.SiteGentle.{Gentle}
 
 -- the site isn't in doubt of the attempt, or presumes this decision

@@ -24,12 +24,10 @@ use Rattle.fed_rules.specs.Usable.{IsOfSite, home_of_first, read}
 use Rattle.fed_rules.specs.Disk.{standing}
 use Rattle.fed_rules.specs.Reopened.{first_of}
 use Rattle.fed_rules.specs.Usable.{IsUsableSite}
-use Rattle.sum_laws.proofs.ReadAs.{some_site_frame}
+use Rattle.sum_laws.proofs.ForCallers.{sites_read, some_site_frame}
 use Rattle.site_history.specs.Events.{AreSorted}
 use Rattle.site_history.specs.FoundSites.{IsFoundSite}
-use Rattle.site_history.proofs.Journals.{standing_trimmed}
-use Rattle.site_history.proofs.OpenedSites.{found_says_all, front, reopened}
-use Rattle.sum_laws.proofs.ReadAs.{sites_read}
+use Rattle.site_history.proofs.ForCallers.{found_says_all, front, reopened, standing_trimmed}
 use Rattle.found_laws.specs.FoundSessions.{RowsRise}
 use Rattle.found_laws.specs.Resuming.{IsResuming}
 use Rattle.resume_laws.proofs.SiteGoes.{IsGoing, epoch_same, goes_alone, goes_checked, goes_ended, goes_started, going_front, later}

@@ -4,7 +4,7 @@ use Rattle.std.proofs.Common.{◌≡◌, ℕ, ◌+◌, Bool, true, false, cond, 
 use Rattle.mdb_base.specs.declared.names.Tid.{Tid}
 use Rattle.mdb_base.specs.Names.{same_tid}
 use Rattle.mdb_base.specs.Words.{when, given}
-use Rattle.mdb_base.proofs.NameLaws.{same_tid-refl}
+use Rattle.mdb_base.proofs.ForCallers.{same_tid-refl}
 use Rattle.order_laws.specs.Chains.{In}
 use Rattle.presumptions.specs.declared.Decision.{Decision}
 use Rattle.presumptions.specs.Table.{forces, acks}
@@ -24,7 +24,7 @@ use Rattle.fed_rules.specs.Site.{answered, checkpoint, of_ask, of_back, of_check
 use Rattle.fed_rules.specs.SitePast.{SiteHappening, SitePast, disk, epoch, is_local, live, records, trip, trip_of}
 use Rattle.fed_rules.specs.SiteRecords.{Held, Home, doubt_of, site_frame}
 use Rattle.found_laws.specs.Resuming.{IsResuming}
-use Rattle.found_laws.proofs.CoordGentle.{IsDecide}
+use Rattle.found_laws.proofs.ForCallers.{IsDecide}
 
 -- an event that comes to a site of such a session
 abbrev pub IsGentleEvent : SiteEvent → Type 0

@@ -4,7 +4,7 @@ use Rattle.std.proofs.Common.{◌≡◌, ℕ, suc, ◌+◌, ◌≤◌, ◌<◌, 
 use Rattle.mdb_base.specs.declared.names.Tid.{Tid}
 use Rattle.mdb_base.specs.declared.names.Tx.{Tx}
 use Rattle.mdb_base.specs.Words.{Among, Each}
-use Rattle.mdb_base.proofs.OptionLaws.{some_parts}
+use Rattle.mdb_base.proofs.ForCallers.{some_parts}
 use Rattle.order_laws.specs.Chains.{In}
 use Rattle.presumptions.specs.declared.Decision.{Decision}
 use Rattle.fed_rules.specs.declared.records.SiteRecord.{SiteRecord}
@@ -16,15 +16,11 @@ use Rattle.fed_rules.specs.SitePast.{SitePast, epoch, records}
 use Rattle.fed_rules.specs.SiteRecords.{Held, Home, doubt_of, doubts, epoch_of, installs}
 use Rattle.fed_rules.specs.SiteSums.{journal_sum, last_sum, site_sum, sum_behind}
 use Rattle.fed_rules.specs.Usable.{EpochsRise, IsLocalOf, IsOfSite, IsUsableSite, counted, home_of_first, read}
-use Rattle.engine_laws.proofs.Rows.{rising_rows_after}
-use Rattle.rules_laws.proofs.SiteRecords.{epoch_same as epoch_is}
-use Rattle.site_history.proofs.OpenedSums.{counted_more}
-use Rattle.site_history.proofs.Starts.{doubt_tid}
+use Rattle.engine_laws.proofs.ForCallers.{rising_rows_after}
+use Rattle.rules_laws.proofs.ForCallers.{epoch_same as epoch_is}
+use Rattle.site_history.proofs.ForCallers.{are_doubts, counted_more, doubt_tid, doubts_are, read_more, records_are}
 use Rattle.site_history.specs.FoundSites.{WritesRise}
-use Rattle.site_history.proofs.Doubtful.{are_doubts, doubts_are}
-use Rattle.site_history.proofs.OpenedSites.{records_are}
-use Rattle.site_history.proofs.OpenedSums.{read_more}
-use Rattle.sum_laws.proofs.ReadAs.{sites_read}
+use Rattle.sum_laws.proofs.ForCallers.{sites_read}
 use Rattle.found_laws.specs.FoundSessions.{RowsRise}
 use Rattle.resume_laws.proofs.SiteMore.{local_counts, usable_alone, usable_checked, usable_ended, usable_front, usable_started}
 use Rattle.resume_laws.proofs.SumFacts.{says, site_found, sum_apart, sum_below, sum_doubts, sum_held, sum_locals, sum_of_some, sum_one, sum_parted, sum_rise, sum_within}
@@ -204,7 +200,7 @@ module _ (home : Home) (found : List SiteRecord) (most : ℕ) (past : SitePast) 
   }
     where
       epoch_alone : epoch_of (read (Checkpoint sum ∷ [])) ≡ epoch_of (read js)
-      epoch_alone = Rattle.disk_laws.proofs.SiteWritten.epoch_read first (read js)
+      epoch_alone = Rattle.disk_laws.proofs.ForCallers.epoch_read first (read js)
 
   pub goes_checked : 1 ≤ epoch home past → IsGoing home found (suc most) (checkpoint home past ∷ js)
   goes_checked one = subst (λ s. IsGoing home found (suc most) (Checkpoint s ∷ js)) (sym sum_is) (checked one)

@@ -15,9 +15,9 @@ use Rattle.fed_rules.specs.Runs.{run_at}
 use Rattle.fed_rules.specs.Site.{answered, checkpoint, of_ask, of_back, of_check, of_decide, of_drop, of_give, site_line, site_past_on}
 use Rattle.fed_rules.specs.SitePast.{SiteHappening, SitePast, disk, engine_lines, epoch_start, live, live_one, records, trip}
 use Rattle.fed_rules.specs.SiteRecords.{Home, site_frame, start_of}
-use Rattle.commit_laws.proofs.SiteShut.{restored-sealed}
-use Rattle.federation_laws.proofs.SiteMoves.{live-next}
-use Rattle.closing_laws.proofs.Calm.{ask_mild, decide_mild, drop_mild}
+use Rattle.commit_laws.proofs.ForCallers.{restored-sealed}
+use Rattle.federation_laws.proofs.ForCallers.{live-next}
+use Rattle.closing_laws.proofs.ForCallers.{ask_mild, decide_mild, drop_mild}
 use Rattle.found_laws.specs.Resuming.{IsResuming}
 
 -- nothing lives

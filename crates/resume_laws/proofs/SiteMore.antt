@@ -5,9 +5,9 @@ use Rattle.mdb_base.specs.declared.names.Tid.{Tid}
 use Rattle.mdb_base.specs.declared.names.Tx.{Tx}
 use Rattle.mdb_base.specs.Names.{same_tid}
 use Rattle.mdb_base.specs.Words.{Among, Each}
-use Rattle.mdb_base.proofs.ListLaws.{each_inserted}
+use Rattle.mdb_base.proofs.ForCallers.{each_inserted}
 use Rattle.order_laws.specs.Chains.{In, Distinct}
-use Rattle.order_laws.proofs.Lists.{each_at, each_from}
+use Rattle.order_laws.proofs.ForCallers.{each_at, each_from}
 use Rattle.presumptions.specs.declared.Decision.{Decision}
 use Rattle.presumptions.specs.declared.Decision.TheVariants as Decided
 use Rattle.fed_rules.specs.declared.records.SiteRecord.{SiteRecord}
@@ -19,14 +19,8 @@ use Rattle.fed_rules.specs.SiteRecords.{Held, Home, Install, doubt_of, doubts, e
 use Rattle.fed_rules.specs.SiteSums.{carried, site_sum}
 use Rattle.fed_rules.specs.Usable.{AreBehind, DoubtsApart, EpochsRise, HaveSums, IsBehind, IsBelow, IsGlobalOf, IsLocalOf, IsSumOfSome, IsUsableSite, IsWithin, LocalsOnTop, OnceEach, SetUpFirst, TicketsRise, counted, home_of_first, numbers, read}
 use Rattle.std.specs.Prelude.{nat_lt}
-use Rattle.site_history.proofs.Starts.{doubt_tid}
-use Rattle.site_history.proofs.Doubtful.{are_doubts, doubts_alike, doubts_are}
-use Rattle.site_history.proofs.Doubted.{are_doubt}
-use Rattle.disk_laws.proofs.SiteLeft.{AreHeld}
-use Rattle.disk_laws.proofs.SiteOnce.{OneOfTx, once_carried}
-use Rattle.disk_laws.proofs.SiteRead.{counts_as}
-use Rattle.site_history.proofs.OpenedSums.{counted_more}
-use Rattle.disk_laws.proofs.SiteDrawers.{doubt_numbers}
+use Rattle.site_history.proofs.ForCallers.{are_doubt, are_doubts, counted_more, doubt_tid, doubts_alike, doubts_are}
+use Rattle.disk_laws.proofs.ForCallers.{AreHeld, OneOfTx, counts_as, doubt_numbers, once_carried}
 
 -- ---- fronts
 

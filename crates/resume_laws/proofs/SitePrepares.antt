@@ -2,7 +2,7 @@
 use Rattle.std.proofs.Common.{◌≡◌, ℕ, ◌+◌, nat_le, Bool, true, false, cond, Option, Some, None, List, [], ◌∷◌, ◌++◌, length, map, sym, subst, ◌∙◌, inl, inr}
 use Rattle.mdb_base.specs.declared.names.Tid.{Tid}
 use Rattle.mdb_base.specs.Words.{Each, given, when, with_some}
-use Rattle.mdb_base.proofs.ListLaws.{append_each}
+use Rattle.mdb_base.proofs.ForCallers.{append_each}
 use Rattle.order_laws.specs.Chains.{In}
 use Rattle.presumptions.specs.declared.Decision.{Decision}
 use Rattle.presumptions.specs.Table.{forces}
@@ -21,8 +21,7 @@ use Rattle.fed_rules.specs.Site.{answered, of_ask, of_back, of_check, of_decide,
 use Rattle.fed_rules.specs.SitePast.{SiteHappening, SitePast, disk, epoch, is_local, live, records, trip}
 use Rattle.fed_rules.specs.SiteRecords.{Held, Home, doubt_of, prepared_tids, site_frame}
 use Rattle.fed_rules.specs.SiteSums.{carried}
-use Rattle.site_history.proofs.OpenedSites.{disk_is}
-use Rattle.site_history.proofs.Starts.{EachAppend, append_take, doubt_among, each_after}
+use Rattle.site_history.proofs.ForCallers.{EachAppend, append_take, disk_is, doubt_among, each_after}
 use Rattle.found_laws.specs.Resuming.{IsResuming}
 
 module _ (P : Tid → Type 0) where

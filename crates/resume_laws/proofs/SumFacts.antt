@@ -3,8 +3,8 @@ use Rattle.std.proofs.Common.{◌≡◌, ℕ, ◌≤◌, ◌<◌, ◌^◌, ◌�
 use Rattle.mdb_base.specs.declared.names.Tid.{Tid}
 use Rattle.mdb_base.specs.declared.names.Tx.{Tx}
 use Rattle.mdb_base.specs.Words.{Among, Each, inserted}
-use Rattle.mdb_base.proofs.ListLaws.{append_each}
-use Rattle.order_laws.proofs.Lists.{among_weaker, each_at, each_from}
+use Rattle.mdb_base.proofs.ForCallers.{append_each}
+use Rattle.order_laws.proofs.ForCallers.{among_weaker, each_at, each_from}
 use Rattle.fed_rules.specs.declared.records.SiteRecord.{SiteRecord}
 use Rattle.fed_rules.specs.declared.records.SiteRecord.TheVariants.{Setup, Start, Prepared, Ended, Local, Checkpoint}
 use Rattle.fed_rules.specs.declared.sums.SiteSum.{SiteSum}
@@ -14,24 +14,10 @@ use Rattle.fed_rules.specs.Reopened.{first_of, local_read, owner_read, site_sum_
 use Rattle.fed_rules.specs.SiteRecords.{Held, Home, doubts, epoch_of, kept_held, last_number, last_ticket, ticket_owner}
 use Rattle.fed_rules.specs.SiteSums.{carried, locals_with, site_sum}
 use Rattle.fed_rules.specs.Usable.{AreSumsOfSome, IsBelow, IsGlobalOf, IsHeldBelow, IsLocalOf, IsSumOfSome, IsUsableSite, IsWithin, OnceEach, RiseBy, counted, home_of_first, read, OfFronts}
-use Rattle.rules_laws.proofs.SiteRecords.{epoch_same}
-use Rattle.site_history.proofs.OpenedSums.{counted_more}
-use Rattle.site_history.proofs.Fronts.{whole_of_fronts}
-use Rattle.site_history.proofs.Records.{doubt_in, record_of}
-use Rattle.site_history.proofs.WellKept.{StartsWell}
+use Rattle.rules_laws.proofs.ForCallers.{epoch_same}
+use Rattle.site_history.proofs.ForCallers.{IsReopened, SameSays, StartsWell, all_due_same, all_read, counted_more, doubt_in, doubts_alike, doubts_are, doubts_rise, first_fit, first_says, locals_from, read_more, record_of, records_are, reopened, same_sum, says_more, sites_go_on, whole_of_fronts}
 use Rattle.site_history.specs.FoundSites.{AreToldApart, IsFoundSite, IsOf, WritesRise}
-use Rattle.site_history.proofs.Doubtful.{doubts_alike, doubts_are, doubts_rise}
-use Rattle.site_history.proofs.InOrder.{first_fit}
-use Rattle.site_history.proofs.OpenedSites.{IsReopened, records_are, reopened}
-use Rattle.site_history.proofs.OpenedSums.{all_due_same, all_read, first_says, read_more}
-use Rattle.site_history.proofs.SameSays.{SameSays, same_sum, says_more}
-use Rattle.disk_laws.proofs.Rises.{rise_inserted}
-use Rattle.disk_laws.proofs.SiteFormat.{sum_rises, sum_told}
-use Rattle.disk_laws.proofs.SiteLeft.{AreHeld, held_of, marked, none_counts, owner_counts, owner_is, within}
-use Rattle.disk_laws.proofs.SiteLists.{others, owned}
-use Rattle.disk_laws.proofs.SiteOnce.{OneOfTx, one_inserted}
-use Rattle.site_history.proofs.UsableSites.{locals_from, sites_go_on}
-use Rattle.disk_laws.proofs.SiteRead.{counts_as, doubts_read, installs_read}
+use Rattle.disk_laws.proofs.ForCallers.{AreHeld, OneOfTx, counts_as, doubts_read, held_of, installs_read, marked, none_counts, one_inserted, others, owned, owner_counts, owner_is, rise_inserted, sum_rises, sum_told, within}
 
 -- ---- the local ones of those that count
 
@@ -310,5 +296,5 @@ module _ (home : Home) (number : ℕ) (newest : SiteRecord) (older : List SiteRe
       (doubts_read home [] all ∙ doubts_alike (Checkpoint (site_sum home all) ∷ all) all (λ tid. refl))
       (λ P blank each. installs_read home P blank [] all each))
     where
-      opened_fit : Rattle.site_history.proofs.InOrder.AllFit all
-      opened_fit = subst Rattle.site_history.proofs.InOrder.AllFit (records_are home newest older 0) opened.orders.orderly.all.fit
+      opened_fit : Rattle.site_history.proofs.ForCallers.AllFit all
+      opened_fit = subst Rattle.site_history.proofs.ForCallers.AllFit (records_are home newest older 0) opened.orders.orderly.all.fit

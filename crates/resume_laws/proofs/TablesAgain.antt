@@ -4,7 +4,7 @@ use Rattle.mdb_base.specs.declared.names.Key.{Key}
 use Rattle.mdb_base.specs.declared.names.Tid.{Tid}
 use Rattle.mdb_base.specs.Rows.{look_up}
 use Rattle.mdb_base.specs.Words.{Each}
-use Rattle.mdb_base.proofs.ListLaws.{append_each}
+use Rattle.mdb_base.proofs.ForCallers.{append_each}
 use Rattle.order_laws.specs.Chains.{In}
 use Rattle.presumptions.specs.declared.Decision.{Decision}
 use Rattle.presumptions.specs.declared.Decision.TheVariants as Decided
@@ -32,19 +32,18 @@ use Rattle.site_history.specs.Records.{TellOutcomes, TellsOutcome}
 use Rattle.site_history.specs.SiteOrders.{IsSerialPast}
 use Rattle.site_history.specs.Stories.{OfSites}
 use Rattle.commit_laws.specs.Forgetting.{PresumptionsAreRight}
-use Rattle.commit_laws.proofs.Links.{home-again, its-site}
-use Rattle.federation_laws.proofs.SiteParts.{tells-outcomes}
+use Rattle.commit_laws.proofs.ForCallers.{home-again, its-site}
+use Rattle.federation_laws.proofs.ForCallers.{tells-outcomes}
 use Rattle.closing_laws.specs.AtRest.{IsAtRest}
-use Rattle.closing_laws.proofs.Inquire.{doubt_listed}
-use Rattle.site_history.proofs.Behind.{doubt_behind}
+use Rattle.closing_laws.proofs.ForCallers.{doubt_listed}
+use Rattle.site_history.proofs.ForCallers.{doubt_behind}
 use Rattle.resume_laws.specs.Premises.{SaysSame, coord_left, site_left}
 use Rattle.resume_laws.specs.Tables.{NumbersDiffer, TableFits, TablesAreSerial}
 use Rattle.resume_laws.proofs.DueLists.{IsLast, all_settled_on, last_due, last_once, look_up_alone, same_installs, same_look_ups, same_site_rows}
 use Rattle.resume_laws.proofs.GentleClosing.{closing_gentle}
 use Rattle.resume_laws.proofs.GoesOn.{IsSiteOf, any_home, any_installs, same_doubt, settles_agree, site_of}
-use Rattle.found_laws.proofs.Idle.{idle}
+use Rattle.found_laws.proofs.ForCallers.{idle, session_begins}
 use Rattle.resume_laws.proofs.LiveWalk.{opens_dormant}
-use Rattle.found_laws.proofs.Opening.{session_begins}
 use Rattle.resume_laws.proofs.RestsAgain.{all_rest}
 use Rattle.resume_laws.proofs.Tails.{IsTail, Tail, tails_on}
 

@@ -3,9 +3,7 @@ use Rattle.std.proofs.Common.{◌≡◌, ◌+◌, Bool, true, false, cond, Optio
 use Rattle.mdb_base.specs.declared.names.Tid.{Tid}
 use Rattle.mdb_base.specs.Names.{same_site}
 use Rattle.mdb_base.specs.Words.{Each, when, given}
-use Rattle.mdb_base.proofs.OptionLaws.{some_parts}
-use Rattle.mdb_base.proofs.NameLaws.{same_site-equal}
-use Rattle.mdb_base.proofs.ListLaws.{append_each}
+use Rattle.mdb_base.proofs.ForCallers.{append_each, same_site-equal, some_parts}
 use Rattle.presumptions.specs.declared.Decision.{Decision}
 use Rattle.presumptions.specs.Table.{forces}
 use Rattle.fed_rules.specs.declared.answers.Answer.TheVariants as Say
@@ -28,11 +26,11 @@ use Rattle.fed_rules.specs.SitePast.{SiteHappening, SitePast, disk, epoch, is_lo
 use Rattle.fed_rules.specs.SiteRecords.{Home, doubt_of, site_frame}
 use Rattle.fed_rules.specs.Story.{AtCoordinator, AtSite, Happened, Nowhere, Story, happens, past_of, story_in, with_site}
 use Rattle.rules_laws.specs.Lines.{IsLine, SiteCause}
-use Rattle.rules_laws.proofs.Lines.{line_is}
+use Rattle.rules_laws.proofs.ForCallers.{line_is}
 use Rattle.resume_laws.specs.Gentle.{IsGentle}
 use Rattle.resume_laws.proofs.LiveWalk.{IsDormantIn, dormant_on}
 use Rattle.resume_laws.proofs.SiteGentle.{IsGentleEvent}
-use Rattle.found_laws.proofs.Idle.{IsIdle}
+use Rattle.found_laws.proofs.ForCallers.{IsIdle}
 use Rattle.resume_laws.proofs.Walk.{of_cause}
 
 -- a record that such a session appends

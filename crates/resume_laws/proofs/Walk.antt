@@ -3,12 +3,10 @@ use Rattle.std.proofs.Common.{◌≡◌, Bool, true, false, cond, Some, List, []
 use Rattle.mdb_base.specs.declared.names.Tid.{Tid}
 use Rattle.mdb_base.specs.Names.{same_site}
 use Rattle.mdb_base.specs.Words.{Each}
-use Rattle.mdb_base.proofs.OptionLaws.{some_parts}
-use Rattle.mdb_base.proofs.JoinLaws.{append_nil}
-use Rattle.mdb_base.proofs.NameLaws.{same_site-equal}
+use Rattle.mdb_base.proofs.ForCallers.{append_nil, same_site-equal, some_parts}
 use Rattle.order_laws.specs.Chains.{In}
 use Rattle.presumptions.specs.declared.Decision.{Decision}
-use Rattle.order_laws.proofs.InLaws.{item_at-in}
+use Rattle.order_laws.proofs.ForCallers.{item_at-in}
 use Rattle.fed_rules.specs.declared.commands.Command.{Command}
 use Rattle.fed_rules.specs.declared.commands.Command.TheVariants as Cmd
 use Rattle.fed_rules.specs.declared.events.SiteEvent.{SiteEvent}
@@ -21,15 +19,10 @@ use Rattle.fed_rules.specs.Site.{site_line}
 use Rattle.fed_rules.specs.SiteRecords.{Home}
 use Rattle.fed_rules.specs.Story.{AtCoordinator, AtSite, Happened, Nowhere, Story, coord_past, happens, past_of, sends_from, sends_to, sent_from, sent_to, story_in, with_coordinator, with_site}
 use Rattle.rules_laws.specs.Lines.{IsLine, SiteCause}
-use Rattle.rules_laws.proofs.Lines.{line_is}
-use Rattle.coord_laws.proofs.Lines.{coord_lines}
-use Rattle.coord_laws.proofs.MadeLines.{coord_made}
-use Rattle.coord_laws.proofs.Sound.{CoordSound}
-use Rattle.commit_laws.proofs.Declared.{is-declared}
-use Rattle.commit_laws.proofs.FoundSessions.{CoordinatorFits, session_sound}
-use Rattle.commit_laws.proofs.Links.{CoordCame, IsNext, linked, member_of, numbered}
-use Rattle.found_laws.proofs.CoordGentle.{IsDecide, decisions_alone}
-use Rattle.found_laws.proofs.Idle.{IsIdle, begins_nothing, local_never}
+use Rattle.rules_laws.proofs.ForCallers.{line_is}
+use Rattle.coord_laws.proofs.ForCallers.{CoordSound, coord_lines, coord_made}
+use Rattle.commit_laws.proofs.ForCallers.{CoordCame, CoordinatorFits, IsNext, is-declared, linked, member_of, numbered, session_sound}
+use Rattle.found_laws.proofs.ForCallers.{IsDecide, IsIdle, begins_nothing, decisions_alone, local_never}
 use Rattle.resume_laws.specs.Gentle.{IsGentle}
 use Rattle.resume_laws.proofs.Settling.{CoordGoes, Resumes, coord_goes, site_goes}
 use Rattle.resume_laws.proofs.SiteGentle.{IsGentleEvent, gentle_line}

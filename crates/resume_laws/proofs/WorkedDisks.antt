@@ -1,14 +1,14 @@
 -- Usable disks, disks that are usable each and contradict each other, and the sessions that go on from them.
 use Rattle.std.proofs.Common.{◌≡◌, ℕ, ◌⊎◌, [], ◌∷◌, reverse, refl, sym, ap, subst, ◌∙◌, inl, inr, arith}
 use Rattle.mdb_base.specs.declared.names.Tx.{Tx}
-use Rattle.mdb_base.proofs.OptionLaws.{some_parts}
+use Rattle.mdb_base.proofs.ForCallers.{some_parts}
 use Rattle.order_laws.specs.Tickets.{HasNoCycle}
 use Rattle.fed_rules.specs.declared.records.CoordRecord.{CoordRecord}
 use Rattle.fed_rules.specs.Found.{Journal}
 use Rattle.fed_rules.specs.Resumed.{plan_of, resumed_lines}
 use Rattle.fed_rules.specs.Scenarios.{protocols}
 use Rattle.fed_rules.specs.Usable.{AreUnnamed, IsUsableCoordinator, IsUsableSite}
-use Rattle.fed_rules.proofs.Opened.{opened}
+use Rattle.fed_rules.proofs.ForCallers.{opened}
 use Rattle.found_laws.specs.FoundSessions.{AreUsable}
 use Rattle.resume_laws.specs.WorkedDisks.{begun, one_local, two_disks, worked_lines}
 

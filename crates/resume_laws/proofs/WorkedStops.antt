@@ -3,7 +3,7 @@ use Rattle.std.proofs.Common.{◌≡◌, ◌⊎◌, false, [], ◌∷◌, revers
 use Rattle.mdb_base.specs.declared.names.SiteTicket.{SiteTicket}
 use Rattle.mdb_base.specs.Names.{same_tid}
 use Rattle.mdb_base.specs.Words.{Each}
-use Rattle.mdb_base.proofs.OptionLaws.{some_parts}
+use Rattle.mdb_base.proofs.ForCallers.{some_parts}
 use Rattle.order_laws.specs.Chains.{In}
 use Rattle.order_laws.specs.Tickets.{HasNoCycle, Ticketed}
 use Rattle.presumptions.specs.declared.Protocol.TheVariants as By
@@ -14,7 +14,7 @@ use Rattle.fed_rules.specs.Resumed.{going_on, plan_of, rest_of, resumed, resumed
 use Rattle.fed_rules.specs.Scenarios.{protocols}
 use Rattle.fed_rules.specs.SiteRecords.{Held, kept_held}
 use Rattle.fed_rules.specs.Usable.{AreUnnamed, IsUsableCoordinator, IsUsableSite}
-use Rattle.fed_rules.proofs.Opened.{opened}
+use Rattle.fed_rules.proofs.ForCallers.{opened}
 use Rattle.resume_laws.specs.Again.{left_again}
 use Rattle.found_laws.specs.Ranges.{CoordInRange, IsInRange}
 use Rattle.resume_laws.specs.Closed.{IsSession}

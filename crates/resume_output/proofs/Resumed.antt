@@ -3,7 +3,7 @@ use Rattle.std.proofs.Common.{◌≡◌, ◌++◌, ℕ, Bool, IsTrue, Option, So
 use Rattle.std.proofs.lemmas.List.{length-map, reverse-reverse}
 use Rattle.mdb_base.specs.declared.names.Memory.{Memory}
 use Rattle.mdb_base.specs.Words.{Each}
-use Rattle.order_laws.proofs.InLaws.{each_reverse}
+use Rattle.order_laws.proofs.ForCallers.{each_reverse}
 use Rattle.fed_rules.specs.declared.commands.Command.{Command}
 use Rattle.fed_rules.specs.declared.commands.Line.{Line}
 use Rattle.fed_rules.specs.declared.records.CoordRecord.{CoordRecord}
@@ -33,9 +33,8 @@ use Rattle.fed_world.specs.Faults.{CountsTell}
 use Rattle.fed_world.specs.Lines.{AreLinesIn}
 use Rattle.fed_world.specs.Reporting.{found_report, report_by, report_for}
 use Rattle.closing.specs.Towards.{BreaksAt, IsShort}
-use Rattle.closing.proofs.Towards.{calm_since}
-use Rattle.outputs.proofs.Sized.{AreSized, all_sized}
-use Rattle.outputs.proofs.Kept.{actor_breaks, stands_keeps}
+use Rattle.closing.proofs.ForCallers.{calm_since}
+use Rattle.outputs.proofs.ForCallers.{AreSized, actor_breaks, all_sized, stands_keeps}
 use Rattle.outputs.specs.declared.output.Output.{Output}
 use Rattle.outputs.specs.declared.output.Output.TheVariants.{Whole, Broken}
 use Rattle.outputs.specs.Outputs.{IfBroken, IfWhole}

@@ -1,8 +1,8 @@
 -- What a line's disk calls leave. A line that a stop ends keeps the oldest of the records that it appends, or it loses loose ones before them.
 use Rattle.std.proofs.Common.{◌≡◌, ℕ, zero, suc, ◌+◌, ◌≤◌, ◌⊎◌, inl, inr, min, Bool, true, false, cond, nat_le, List, [], ◌∷◌, ◌++◌, take, refl, sym, ap, subst, ◌∙◌, arith}
 use Rattle.mdb_base.specs.Words.{Each, Among}
-use Rattle.mdb_base.proofs.EachLaws.{among_behind, among_split}
-use Rattle.order_laws.proofs.Joined.{each_not}
+use Rattle.mdb_base.proofs.ForCallers.{among_behind, among_split}
+use Rattle.order_laws.proofs.ForCallers.{each_not}
 use Rattle.fed_rules.specs.Disk.{Disk, Call, Append, Sync, CutBack, TrimFront, Stops, bytes_of, whole, after_call, after_calls}
 use Rattle.rules_laws.specs.Durable.{IsSound, LooseFirst, IsFirm, IsFrontOf}
 use Rattle.rules_laws.proofs.Durable.{whole_all, sound_call, all_synced, firm_append, firm_sync, firm_cut, firm_stop}

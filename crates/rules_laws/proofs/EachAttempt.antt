@@ -5,8 +5,7 @@ use Rattle.mdb_base.specs.Names.{same_tid}
 use Rattle.mdb_base.specs.Words.{Each}
 use Rattle.order_laws.specs.Chains.{In, Distinct}
 use Rattle.order_laws.specs.Orders.{is_in}
-use Rattle.order_laws.proofs.Lists.{is_in_true, is_in_false, not_in_false}
-use Rattle.order_laws.proofs.Names.{tells_tids}
+use Rattle.order_laws.proofs.ForCallers.{is_in_false, is_in_true, not_in_false, tells_tids}
 use Rattle.fed_rules.specs.Attempts.{with_attempt, each_attempt}
 
 -- who is added or stood there stands in it

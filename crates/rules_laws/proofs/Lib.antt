@@ -1,23 +1,24 @@
-pub mod Commands
-pub mod CoordPasts
-pub mod CoordRecords
-pub mod Declared
-pub mod Disks
-pub mod Doubts
-pub mod Dues
-pub mod Durable
-pub mod EachAttempt
-pub mod Heard
-pub mod Lines
-pub mod Pasts
-pub mod RisingLists
-pub mod Scenarios
-pub mod Sends
-pub mod SitePasts
-pub mod SiteRecords
-pub mod SiteRequests
-pub mod OpenedDisks
-pub mod FoundPasts
-pub mod Sending
-pub mod SendsRise
-pub mod PastLengths
+pub mod ForCallers
+mod Commands
+mod CoordPasts
+mod CoordRecords
+mod Declared
+mod Disks
+mod Doubts
+mod Dues
+mod Durable
+mod EachAttempt
+mod Heard
+mod Lines
+mod Pasts
+mod RisingLists
+mod Scenarios
+mod Sends
+mod SitePasts
+mod SiteRecords
+mod SiteRequests
+mod OpenedDisks
+mod FoundPasts
+mod Sending
+mod SendsRise
+mod PastLengths

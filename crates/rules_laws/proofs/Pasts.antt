@@ -1,8 +1,7 @@
 -- What happens at a site in a story is the next line of that site.
 use Rattle.std.proofs.Common.{◌≡◌, Bool, true, false, cond, Some, List, [], ◌∷◌, refl, sym, ◌∙◌, ap}
 use Rattle.mdb_base.specs.Names.{same_site}
-use Rattle.mdb_base.proofs.NameLaws.{same_site-equal}
-use Rattle.mdb_base.proofs.OptionLaws.{some_parts}
+use Rattle.mdb_base.proofs.ForCallers.{same_site-equal, some_parts}
 use Rattle.fed_rules.specs.declared.commands.Command.{Command}
 use Rattle.fed_rules.specs.declared.events.SiteEvent.{SiteEvent}
 use Rattle.fed_rules.specs.declared.scenario.Scenario.{Scenario}

@@ -5,8 +5,7 @@ use Rattle.mdb_base.specs.declared.names.Tid.{Tid}
 use Rattle.mdb_base.specs.declared.names.Tx.{Tx}
 use Rattle.mdb_base.specs.Names.{same_tx}
 use Rattle.mdb_base.specs.Words.{first_where, map_some}
-use Rattle.mdb_base.proofs.NameLaws.{same_tx-equal}
-use Rattle.mdb_base.proofs.TestLaws.{first_passes}
+use Rattle.mdb_base.proofs.ForCallers.{first_passes, same_tx-equal}
 use Rattle.fed_rules.specs.Runs.{Run, is_sealed, unended}
 use Rattle.fed_rules.specs.SitePast.{SitePast, engine_lines, epoch_start, live_of_tx, SiteHappening, attempts_of, begins_tx}
 use Rattle.fed_rules.specs.SiteRecords.{Home}

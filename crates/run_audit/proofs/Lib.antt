@@ -6,4 +6,4 @@ mod Rests
 mod Told
 mod Whole
 mod Whys
-pub mod Parts
+mod Parts

@@ -12,7 +12,7 @@ use Rattle.audit_rules.specs.declared.verdict.Verdict.TheVariants.{Differs}
 use Rattle.audit_rules.specs.declared.verdict.What.TheVariants as Fails
 use Rattle.audit_rules.specs.Agreement.{due, entries, verdict_at_order, verdict_on_report}
 use Rattle.audit_rules.specs.Ends.{merges, rests}
-use Rattle.audit_rules.proofs.Endings.{merge_means, merge_passes}
+use Rattle.audit_rules.proofs.ForCallers.{merge_means, merge_passes}
 use Rattle.audit_text.specs.Lines.{is_entry}
 
 module _ (scenario : Scenario) (n : ℕ) (order : List Tid) (lines : List TextLine) (story : Story) where

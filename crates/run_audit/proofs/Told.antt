@@ -4,7 +4,7 @@ use Rattle.mdb_base.specs.declared.names.SiteId.{SiteId}
 use Rattle.mdb_base.specs.declared.names.Tid.{Tid}
 use Rattle.mdb_base.specs.declared.replies.Edge.{Edge}
 use Rattle.mdb_base.specs.Words.{item_at}
-use Rattle.mdb_base.proofs.OptionLaws.{some_parts}
+use Rattle.mdb_base.proofs.ForCallers.{some_parts}
 use Rattle.fed_rules.specs.declared.answers.Answer.{Answer}
 use Rattle.fed_rules.specs.declared.answers.Answer.TheVariants as Say
 use Rattle.fed_rules.specs.declared.answers.Cause.TheVariants as For
@@ -21,8 +21,7 @@ use Rattle.audit_rules.specs.Faults.{edges_of, may_name, names_cycle}
 use Rattle.audit_lines.specs.declared.votes.Candidate.{Candidate}
 use Rattle.audit_lines.specs.Compared.{TellsWrong}
 use Rattle.audit_lines.specs.Edges.{goes_round}
-use Rattle.audit_lines.proofs.Refusals.{may_is, names_up, names_yes, stands_open, taken}
-use Rattle.audit_lines.proofs.WrongEdges.{TellsOf, tells_wrong}
+use Rattle.audit_lines.proofs.ForCallers.{TellsOf, may_is, names_up, names_yes, stands_open, taken, tells_wrong}
 use Rattle.run_audit.specs.Candidates.{IsFoundCandidate, IsCandidateAt, IsCandidateOf, vote_of}
 
 -- an answer that names no cycle has no edges

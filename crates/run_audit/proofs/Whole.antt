@@ -5,11 +5,11 @@ use Rattle.fed_rules.specs.Headline.{Headline}
 use Rattle.fed_rules.specs.Plans.{IsScenario, Plan}
 use Rattle.scenario_text.specs.Pieces.{lines}
 use Rattle.federation_laws.specs.OneOrder.{HasOneOrder, OfStories}
-use Rattle.federation_laws.proofs.Declared.{declared-in}
+use Rattle.federation_laws.proofs.ForCallers.{declared-in}
 use Rattle.audit_rules.specs.declared.verdict.Verdict.{Verdict}
 use Rattle.audit_rules.specs.declared.verdict.Verdict.TheVariants.{Agrees}
 use Rattle.audit_rules.specs.Agreement.{verdict_from}
-use Rattle.audit_rules.proofs.EachMerge.{audited}
+use Rattle.audit_rules.proofs.ForCallers.{audited}
 use Rattle.audit_text.specs.Lines.{printed_in, is_entry}
 use Rattle.run_audit.specs.Audits.{RunIsAudited, WillFit, is_short, verdict_behind, verdict_by}
 

@@ -12,8 +12,8 @@ use Rattle.mdb_base.specs.Words.{Each}
 use Rattle.fed_rules.specs.declared.runs.Kept.{Kept}
 use Rattle.fed_rules.specs.Runs.{Start, EngineLine, Begins, Acts, Takes, Seals, Refuses, Commits, Aborts, Run, tid_of, restored, restored_at, begun, acted, took, changed, run_at, counter}
 use Rattle.fed_rules.specs.EngineLines.{IsRightLine, IsRight, IsStart, AreApart, AllApart}
-use Rattle.engine_laws.proofs.Counted.{counted}
-use Rattle.mdb_base.proofs.NameLaws.{same_tid-equal}
+use Rattle.engine_laws.proofs.ForCallers.{counted}
+use Rattle.mdb_base.proofs.ForCallers.{same_tid-equal}
 
 -- a run goes on as the one that it was
 pub record GoesOn (old : Option Run) (now : Run) : Type 0 where

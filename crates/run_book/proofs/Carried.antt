@@ -6,7 +6,7 @@ use Rattle.mdb_base.specs.declared.acts.PlainAct.TheVariants.{Read, Write}
 use Rattle.mdb_base.specs.declared.replies.Reply.TheVariants.{Done, Value, Ticket, Wait, Refused, Unknown}
 use Rattle.mdb_base.specs.Words.{map_some, or_else}
 use Rattle.fed_rules.specs.Runs.{Start, EngineLine, Begins, Acts, Takes, Seals, Refuses, Commits, Aborts, Run, run_at, has_ticket}
-use Rattle.fed_rules.proofs.RunLines.{run_at_own}
+use Rattle.fed_rules.proofs.ForCallers.{run_at_own}
 use Rattle.run_book.specs.declared.counters.Counters.{Counters}
 use Rattle.run_book.specs.Held.{Held, held_in}
 use Rattle.run_book.specs.Book.{Book, RoomyBook, begins, taken_by}

@@ -9,10 +9,8 @@ use Rattle.mdb_base.specs.Words.{or_else, map_some}
 use Rattle.fed_rules.specs.Runs.{Start, EngineLine, Commits, Run, changed, run_at, number, by_number, committed}
 use Rattle.fed_rules.specs.EngineLines.{IsRightLine}
 use Rattle.fed_rules.specs.SerialRuns.{NumbersFall}
-use Rattle.engine_laws.proofs.Counted.{counted as all_counted}
-use Rattle.engine_laws.proofs.EachRule.{always_serial}
-use Rattle.engine_laws.proofs.Runs.{number_is}
-use Rattle.mdb_base.proofs.NameLaws.{same_tid-equal}
+use Rattle.engine_laws.proofs.ForCallers.{always_serial, counted as all_counted, number_is}
+use Rattle.mdb_base.proofs.ForCallers.{same_tid-equal}
 use Rattle.site_tables.specs.Tables.{written}
 use Rattle.run_book.specs.Held.{Held, held_in, without, own_write}
 use Rattle.run_book.specs.Book.{Book, commits}

@@ -5,7 +5,7 @@ use Rattle.mdb_base.specs.declared.names.Tid.{Tid}
 use Rattle.fed_rules.specs.Runs.{Start, EngineLine, Begins, Seals, Run, begun, run_at}
 use Rattle.fed_rules.specs.EngineLines.{IsRight}
 use Rattle.engine_contract.specs.Calls.{CanAct, CanTake, CanSeal, CanCommit, CanAbort, HasJustBegun, HasJustSealed}
-use Rattle.fed_rules.proofs.RunLines.{run_at_own}
+use Rattle.fed_rules.proofs.ForCallers.{run_at_own}
 use Rattle.run_book.specs.Held.{Held, held_in}
 use Rattle.run_book.specs.Book.{Book}
 use Rattle.run_book.specs.Keeps.{Keeps}

@@ -4,7 +4,7 @@ use Rattle.std.specs.FinMap.{empty, from_entries, get-empty}
 use Rattle.mdb_base.specs.declared.names.Tid.{Tid}
 use Rattle.mdb_base.specs.Names.{same_tid, tid_cmp}
 use Rattle.mdb_base.specs.Words.{map_some}
-use Rattle.mdb_base.proofs.NameLaws.{same_tid-equal, same_tid-sym}
+use Rattle.mdb_base.proofs.ForCallers.{same_tid-equal, same_tid-sym}
 use Rattle.fed_rules.specs.declared.runs.Kept.{Kept}
 use Rattle.fed_rules.specs.Runs.{Access, restored, is_sealed}
 use Rattle.ticket_item.specs.Item.{Item, is_holder}

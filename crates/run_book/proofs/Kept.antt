@@ -8,14 +8,12 @@ use Rattle.mdb_base.specs.declared.rows.Put.{Put}
 use Rattle.mdb_base.specs.Names.{same_key}
 use Rattle.mdb_base.specs.Rows.{look_up, value_in}
 use Rattle.mdb_base.specs.Words.{Each, or_else}
-use Rattle.mdb_base.proofs.RowLaws.{look_up-value_in}
-use Rattle.mdb_base.proofs.OptionLaws.{first_of}
+use Rattle.mdb_base.proofs.ForCallers.{first_of, look_up-value_in}
 use Rattle.fed_rules.specs.Runs.{Access, Got, Wrote, Run, number, by_number, table_of}
 use Rattle.fed_rules.specs.SerialRuns.{NumbersFall}
 use Rattle.site_tables.specs.declared.versions.Version.{Version}
 use Rattle.site_tables.specs.Tables.{Versions, is_newer, value_of, written}
-use Rattle.site_tables.proofs.OneRow.{get-put, get-with_row, same_versions}
-use Rattle.site_tables.proofs.Writes.{written-either}
+use Rattle.site_tables.proofs.ForCallers.{get-put, get-with_row, same_versions, written-either}
 use Rattle.run_book.specs.Held.{own_write}
 use Rattle.run_book.specs.Tables.{first_versions, with_writes, or_kept, kept_after}
 use Rattle.run_book.proofs.ValueLemmas.{after-own_write}

@@ -4,8 +4,7 @@ use Rattle.mdb_base.specs.declared.names.Key.{Key}
 use Rattle.mdb_base.specs.declared.rows.Put.{Put}
 use Rattle.mdb_base.specs.Names.{same_key}
 use Rattle.mdb_base.specs.Rows.{value_in}
-use Rattle.mdb_base.proofs.OptionLaws.{first_of}
-use Rattle.mdb_base.proofs.RowLaws.{value_in-with_row, value_in-with_rows}
+use Rattle.mdb_base.proofs.ForCallers.{first_of, value_in-with_row, value_in-with_rows}
 use Rattle.fed_rules.specs.Runs.{Access, Got, Wrote, Run, number, puts_of, rows_of}
 use Rattle.site_tables.specs.declared.versions.Version.{Version}
 use Rattle.site_tables.specs.Tables.{row_of, written}

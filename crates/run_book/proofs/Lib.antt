@@ -1,23 +1,24 @@
-pub mod Ages
-pub mod Best
-pub mod BookLemmas
-pub mod Calls
-pub mod Carried
-pub mod Commits
-pub mod Ends
-pub mod HeldBy
-pub mod InOrder
-pub mod Installs
-pub mod Kept
-pub mod KeptRows
-pub mod Members
-pub mod Numbers
-pub mod Promises
-pub mod RowLemmas
-pub mod RunMaps
-pub mod Starts
-pub mod Steps
-pub mod Tables
-pub mod Unended
-pub mod ValueLemmas
-pub mod Words
+pub mod ForCallers
+mod Ages
+mod Best
+mod BookLemmas
+mod Calls
+mod Carried
+mod Commits
+mod Ends
+mod HeldBy
+mod InOrder
+mod Installs
+mod Kept
+mod KeptRows
+mod Members
+mod Numbers
+mod Promises
+mod RowLemmas
+mod RunMaps
+mod Starts
+mod Steps
+mod Tables
+mod Unended
+mod ValueLemmas
+mod Words

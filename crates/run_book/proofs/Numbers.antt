@@ -8,9 +8,8 @@ use Rattle.mdb_base.specs.Names.{same_tid}
 use Rattle.mdb_base.specs.Words.{or_else, map_some}
 use Rattle.fed_rules.specs.Runs.{Start, EngineLine, Begins, Seals, Run, begun, changed, run_at, counter, published, owner, ticket_of, has_ticket}
 use Rattle.fed_rules.specs.EngineLines.{IsFree, IsRightLine}
-use Rattle.mdb_base.proofs.NameLaws.{same_tid-refl, same_tid-equal}
-use Rattle.mdb_base.proofs.OptionLaws.{none_from}
-use Rattle.fed_rules.proofs.RunLines.{run_at_other, run_at_own}
+use Rattle.mdb_base.proofs.ForCallers.{none_from, same_tid-equal, same_tid-refl}
+use Rattle.fed_rules.proofs.ForCallers.{run_at_other, run_at_own}
 use Rattle.run_book.specs.declared.counters.Counters.{Counters}
 use Rattle.run_book.specs.Held.{Held, held_in, with_run, changed_in, without}
 use Rattle.run_book.specs.Book.{Book, begins, unbegins, sealed_with, sealed_counters, ticket_in, seals, not_sealed, counters_without, unseals}

@@ -12,13 +12,12 @@ use Rattle.std.proofs.lemmas.Bool.{cond-true, cond-false}
 use Rattle.mdb_base.specs.declared.names.Tid.{Tid}
 use Rattle.mdb_base.specs.Names.{same_tid, tid_cmp}
 use Rattle.mdb_base.specs.Words.{map_some, or_else}
-use Rattle.mdb_base.proofs.NameLaws.{same_tid-refl, same_tid-equal, same_tid-sym}
+use Rattle.mdb_base.proofs.ForCallers.{same_tid-equal, same_tid-refl, same_tid-sym, tid_ties, tids_exact, tids_total}
 use Rattle.run_book.specs.Held.{Held, Runs, held_in, with_run, changed_in, without}
 use Rattle.run_book.specs.Changes.{changed_entries}
 use Rattle.run_book.specs.Named.{by_tid, name_of, same_name, tid_of}
 use Rattle.run_book.specs.declared.run_map.Name.{Name}
 use Rattle.run_book.specs.Tables.{promised, promised_by}
-use Rattle.mdb_base.proofs.NameOrders.{tids_exact, tids_total, tid_ties}
 
 turned : (a b : Tid) → is_eq (tid_cmp b a) ≡ same_tid a b
 turned a b = tid_ties b a ∙ same_tid-sym b a

@@ -12,7 +12,7 @@ use Rattle.fed_rules.specs.declared.runs.Kept.{Kept}
 use Rattle.fed_rules.specs.Runs.{Run, restored, restored_at}
 use Rattle.fed_rules.specs.EngineLines.{IsStart, AreApart, AllApart}
 use Rattle.engine_contract.specs.Calls.{start_from}
-use Rattle.mdb_base.proofs.NameLaws.{same_tid-equal, same_tid-sym}
+use Rattle.mdb_base.proofs.ForCallers.{same_tid-equal, same_tid-sym}
 use Rattle.run_book.specs.declared.counters.Counters.{Counters}
 use Rattle.run_book.specs.Held.{Held, Runs, with_run}
 use Rattle.run_book.specs.Book.{with_restored, started}

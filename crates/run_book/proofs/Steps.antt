@@ -10,7 +10,7 @@ use Rattle.mdb_base.specs.Names.{same_tid}
 use Rattle.mdb_base.specs.Words.{map_some}
 use Rattle.fed_rules.specs.Runs.{Start, EngineLine, Acts, Takes, Refuses, Aborts, Run, tid_of, changed, run_at, committed}
 use Rattle.fed_rules.specs.EngineLines.{IsRightLine}
-use Rattle.mdb_base.proofs.NameLaws.{same_tid-equal}
+use Rattle.mdb_base.proofs.ForCallers.{same_tid-equal}
 use Rattle.run_book.specs.declared.counters.Counters.{Counters}
 use Rattle.run_book.specs.Held.{Held, Runs, held_in}
 use Rattle.run_book.specs.Book.{Book}

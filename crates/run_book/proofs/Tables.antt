@@ -3,7 +3,7 @@ use Rattle.std.proofs.Common.{◌≡◌, List, sym, ap, ◌∙◌}
 use Rattle.mdb_base.specs.declared.names.Engine.{Engine}
 use Rattle.mdb_base.specs.declared.names.Key.{Key}
 use Rattle.mdb_base.specs.declared.rows.Put.{Put}
-use Rattle.mdb_base.proofs.RowLaws.{same_rows}
+use Rattle.mdb_base.proofs.ForCallers.{same_rows}
 use Rattle.fed_rules.specs.Runs.{Start, EngineLine, Access, committed, after, table}
 use Rattle.fed_rules.specs.Runs.{rows as rows_after}
 use Rattle.site_tables.specs.Tables.{row_of, value_of}
@@ -12,8 +12,7 @@ use Rattle.run_book.specs.Keeps.{Keeps}
 use Rattle.run_book.specs.Tables.{AreRowsOf}
 use Rattle.run_book.proofs.Kept.{value-kept_after}
 use Rattle.run_book.proofs.KeptRows.{row-kept_after}
-use Rattle.engine_laws.proofs.Rows.{rising_rows}
-use Rattle.engine_laws.proofs.Tables.{after_same}
+use Rattle.engine_laws.proofs.ForCallers.{after_same, rising_rows}
 
 pub table_in-table : (kind : Engine) (book : Book) (start : Start) (lines : List EngineLine) → Keeps kind book start lines → (key : Key) → table_in book key ≡ table start lines key
 table_in-table kind book start lines k key = ap value_of (k.versions key) ∙ value-kept_after start.rows (committed start lines) key

@@ -6,7 +6,7 @@ use Rattle.mdb_base.specs.Words.{map_some, with_some, found, those, least}
 use Rattle.fed_rules.specs.Runs.{Start, EngineLine, Run, run_at, attempts, unended}
 use Rattle.fed_rules.specs.Replies.{age_of}
 use Rattle.fed_rules.specs.EngineLines.{IsRight, IsStart}
-use Rattle.engine_laws.proofs.Runs.{attempts_have, tid_is}
+use Rattle.engine_laws.proofs.ForCallers.{attempts_have, tid_is}
 use Rattle.run_book.specs.declared.rival.Rival.{Rival}
 use Rattle.run_book.specs.Rivals.{rival_by, IsOldest}
 use Rattle.run_book.proofs.Ages.{ages-differ}

@@ -4,7 +4,7 @@ use Rattle.std.specs.List.{list_any}
 use Rattle.std.proofs.lemmas.List.Sorted.{list_any-IsPermutation, IsPermutation-reverse}
 use Rattle.std.proofs.lemmas.List.{take_more, reverse-append}
 use Rattle.mdb_base.specs.Words.{some_of}
-use Rattle.mdb_base.proofs.TestLaws.{some_of-list_any}
+use Rattle.mdb_base.proofs.ForCallers.{some_of-list_any}
 
 -- some item passes the test also where the list is turned round
 pub list_any_turned : {A : Type 0} (test : A → Bool) (xs : List A) → list_any test xs ≡ some_of test (reverse xs)

@@ -7,17 +7,14 @@ use Rattle.mdb_base.specs.declared.names.SiteId.{SiteId}
 use Rattle.mdb_base.specs.Names.{same_key, same_site, same_tx}
 use Rattle.mdb_base.specs.Programs.{IsProgram}
 use Rattle.mdb_base.specs.Words.{Each, each_of, some_of}
-use Rattle.mdb_base.proofs.ListLaws.{each_map, none_some_of}
-use Rattle.mdb_base.proofs.EachLaws.{each_pushed}
-use Rattle.mdb_base.proofs.BoolLaws.{is_true_both}
-use Rattle.mdb_base.proofs.TestLaws.{some_of-push, how_many_at_most}
+use Rattle.mdb_base.proofs.ForCallers.{each_map, each_pushed, how_many_at_most, is_true_both, none_some_of, some_of-push}
 use Rattle.fed_rules.specs.declared.scenario.ItemLine.{ItemLine}
 use Rattle.fed_rules.specs.declared.scenario.LinkLine.{LinkLine}
 use Rattle.fed_rules.specs.declared.scenario.SiteLine.{SiteLine}
 use Rattle.fed_rules.specs.declared.scenario.StopLine.{StopLine}
 use Rattle.fed_rules.specs.declared.scenario.TxLine.{TxLine}
 use Rattle.fed_rules.specs.Plans.{AreItems, AreLinks, AreSites, AreStops, AreTransactions, IsScenario, all_differ, has_site, is_between, is_declared, is_in_place, is_transaction, most_items, one_row, one_site, one_transaction}
-use Rattle.scenario_text.proofs.ListLemmas.{all_differ-more, each_of-more, how_many-push}
+use Rattle.scenario_text.proofs.ForCallers.{all_differ-more, each_of-more, how_many-push}
 use Rattle.scenario_maker.specs.Draws.{behind, drawn, so_far}
 use Rattle.scenario_maker.specs.Made.{behind_sites, behind_transactions, is_global, made, made_global, made_item, made_items, made_local, made_rows, made_site, made_sites, made_transaction, made_transactions, transfer}
 

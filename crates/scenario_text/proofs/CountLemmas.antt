@@ -3,7 +3,7 @@ use Rattle.std.proofs.Common.{◌≡◌, ℕ, zero, suc, ◌+◌, ◌*◌, ◌�
 use Rattle.std.proofs.lemmas.Bool.{eqb-true, le-ltb, cases_Bool, or_parts}
 use Rattle.std.proofs.lemmas.Bool.Decides.{nat_tests}
 use Rattle.mdb_base.specs.Words.{some_of, each_of, how_many}
-use Rattle.mdb_base.proofs.BoolLaws.{not_true}
+use Rattle.mdb_base.proofs.ForCallers.{not_true}
 use Rattle.fed_rules.specs.Plans.{all_differ}
 use Rattle.scenario_text.proofs.ListLemmas.{first, second}
 

@@ -4,7 +4,7 @@ use Rattle.std.specs.List.{list_all}
 use Rattle.std.proofs.Math.Seq.{drop-cons}
 use Rattle.std.proofs.lemmas.Bool.{leb-true}
 use Rattle.std.proofs.lemmas.List.{drop_all}
-use Rattle.mdb_base.proofs.BoolLaws.{is_true_parts, is_true_both}
+use Rattle.mdb_base.proofs.ForCallers.{is_true_both, is_true_parts}
 use Rattle.scenario_text.specs.Names.{decimal, is_digit, is_number}
 
 -- further digits never make a number smaller

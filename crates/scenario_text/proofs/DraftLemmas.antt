@@ -10,10 +10,7 @@ use Rattle.mdb_base.specs.declared.acts.Step.{Step}
 use Rattle.mdb_base.specs.Names.{same_site, same_key, same_tx}
 use Rattle.mdb_base.specs.Programs.{IsProgram, bad_register, most_steps}
 use Rattle.mdb_base.specs.Words.{some_of, each_of, how_many, or_else}
-use Rattle.mdb_base.proofs.TestLaws.{some_of-push}
-use Rattle.mdb_base.proofs.BoolLaws.{is_true_both}
-use Rattle.mdb_base.proofs.EachLaws.{each_pushed}
-use Rattle.mdb_base.proofs.OptionLaws.{no_number}
+use Rattle.mdb_base.proofs.ForCallers.{each_pushed, is_true_both, no_number, some_of-push}
 use Rattle.fed_rules.specs.declared.commands.Command.{Command}
 use Rattle.fed_rules.specs.declared.scenario.SiteLine.{SiteLine}
 use Rattle.fed_rules.specs.declared.scenario.ItemLine.{ItemLine}

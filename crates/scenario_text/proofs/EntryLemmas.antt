@@ -4,7 +4,7 @@ use Rattle.std.specs.Prelude.{codes, nat_le}
 use Rattle.std.specs.Str.{bytes_eq}
 use Rattle.mdb_base.specs.declared.names.SiteId.{SiteId}
 use Rattle.mdb_base.specs.Words.{each_of}
-use Rattle.mdb_base.proofs.BoolLaws.{is_true_both}
+use Rattle.mdb_base.proofs.ForCallers.{is_true_both}
 use Rattle.fed_rules.specs.declared.scenario.SiteLine.{SiteLine}
 use Rattle.fed_rules.specs.Plans.{is_between, is_declared, is_actor, is_in_place, is_fate}
 use Rattle.scenario_text.specs.CommandLines.{tx_argument, tid_argument, message_argument, attempt_argument, actor_argument, halt_line, trip_line, actor_command, command_line}

@@ -5,8 +5,7 @@ use Rattle.std.proofs.lemmas.Bool.{leb-true, le-leb, ne_eqb, not_from_false, tru
 use Rattle.std.proofs.lemmas.List.{take-append-drop, take_more}
 use Rattle.std.proofs.lemmas.List.Folds.{list_all_more}
 use Rattle.mdb_base.specs.declared.names.SiteId.{SiteId}
-use Rattle.mdb_base.proofs.BoolLaws.{is_true_parts, is_true_both}
-use Rattle.mdb_base.proofs.TestLaws.{each_of-list_all}
+use Rattle.mdb_base.proofs.ForCallers.{each_of-list_all, is_true_both, is_true_parts}
 use Rattle.fed_rules.specs.declared.scenario.SiteLine.{SiteLine}
 use Rattle.fed_rules.specs.Plans.{is_between, is_declared}
 use Rattle.scenario_text.specs.declared.bad.BadWhy.{BadWhy}

@@ -1,18 +1,19 @@
-pub mod CommandLemmas
-pub mod CountLemmas
-pub mod DecimalLemmas
-pub mod MoreSites
-pub mod DraftLemmas
-pub mod EntryLemmas
+pub mod ForCallers
+mod CommandLemmas
+mod CountLemmas
+mod DecimalLemmas
+mod MoreSites
+mod DraftLemmas
+mod EntryLemmas
 mod Examples
-pub mod FrontLemmas
-pub mod LineLemmas
-pub mod ListLemmas
-pub mod Opened
-pub mod PieceLemmas
-pub mod Readings
-pub mod SeenLemmas
-pub mod SizeLemmas
-pub mod StepLemmas
-pub mod UsualLemmas
-pub mod UsualSteps
+mod FrontLemmas
+mod LineLemmas
+mod ListLemmas
+mod Opened
+mod PieceLemmas
+mod Readings
+mod SeenLemmas
+mod SizeLemmas
+mod StepLemmas
+mod UsualLemmas
+mod UsualSteps

@@ -2,8 +2,7 @@
 use Rattle.std.proofs.Common.{◌≡◌, ℕ, suc, Bool, true, false, cond, not, ◌||◌, ◌&&◌, IsTrue, List, [], ◌∷◌, ◌++◌, refl, ap, ◌∙◌}
 use Rattle.std.proofs.lemmas.Bool.{or_parts}
 use Rattle.mdb_base.specs.Words.{some_of, each_of, how_many}
-use Rattle.mdb_base.proofs.TestLaws.{some_of-push}
-use Rattle.mdb_base.proofs.BoolLaws.{and_true, is_true_both}
+use Rattle.mdb_base.proofs.ForCallers.{and_true, is_true_both, some_of-push}
 use Rattle.fed_rules.specs.Plans.{all_differ}
 
 -- ---- one more item at the end

@@ -4,7 +4,7 @@ use Rattle.std.specs.Prelude.{nat_le, ◌==◌}
 use Rattle.mdb_base.specs.declared.names.SiteId.{SiteId}
 use Rattle.mdb_base.specs.declared.acts.Step.{Step}
 use Rattle.mdb_base.specs.Names.{same_site}
-use Rattle.mdb_base.proofs.BoolLaws.{is_true_both}
+use Rattle.mdb_base.proofs.ForCallers.{is_true_both}
 use Rattle.fed_rules.specs.declared.commands.Command.{Command}
 use Rattle.fed_rules.specs.declared.commands.Command.TheVariants as commands
 use Rattle.fed_rules.specs.declared.scenario.SiteLine.{SiteLine}

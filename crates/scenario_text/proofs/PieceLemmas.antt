@@ -5,7 +5,7 @@ use Rattle.std.specs.List.{list_all, onto_first}
 use Rattle.std.proofs.Math.Numerals.{one-add}
 use Prim.Native.Nat.compare.{suc-suc}
 use Rattle.mdb_base.specs.Words.{map_some}
-use Rattle.mdb_base.proofs.BoolLaws.{is_true_parts, not_true}
+use Rattle.mdb_base.proofs.ForCallers.{is_true_parts, not_true}
 use Rattle.scenario_text.specs.Pieces.{cut_at, pieces, only_one, first_and_more, as_lines, lines, line_feed}
 
 abbrev Parts : Type 0

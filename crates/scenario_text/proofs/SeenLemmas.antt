@@ -12,9 +12,7 @@ use Rattle.mdb_base.specs.declared.names.SiteId.{SiteId}
 use Rattle.mdb_base.specs.declared.names.Key.{Key}
 use Rattle.mdb_base.specs.Names.{same_site}
 use Rattle.mdb_base.specs.Words.{some_of, how_many}
-use Rattle.mdb_base.proofs.TestLaws.{some_of-push}
-use Rattle.mdb_base.proofs.NumberLaws.{is_eq-then}
-use Rattle.mdb_base.proofs.BoolLaws.{or_false}
+use Rattle.mdb_base.proofs.ForCallers.{is_eq-then, or_false, some_of-push}
 use Rattle.fed_rules.specs.declared.scenario.ItemLine.{ItemLine}
 use Rattle.fed_rules.specs.declared.scenario.LinkLine.{LinkLine}
 use Rattle.fed_rules.specs.declared.scenario.StopLine.{StopLine}

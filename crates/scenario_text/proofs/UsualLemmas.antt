@@ -6,7 +6,7 @@ use Rattle.std.proofs.lemmas.List.{length-append}
 use Rattle.std.proofs.lemmas.List.Folds.{list_all-append}
 use Rattle.mdb_base.specs.declared.names.SiteId.{SiteId}
 use Rattle.mdb_base.specs.declared.names.Tx.{Tx}
-use Rattle.mdb_base.proofs.BoolLaws.{is_true_both}
+use Rattle.mdb_base.proofs.ForCallers.{is_true_both}
 use Rattle.fed_rules.specs.declared.commands.Command.{Command}
 use Rattle.fed_rules.specs.declared.commands.Command.TheVariants as command
 use Rattle.fed_rules.specs.declared.scenario.SiteLine.{SiteLine}

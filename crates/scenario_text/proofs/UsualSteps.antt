@@ -8,7 +8,7 @@ use Rattle.mdb_base.specs.declared.names.Key.{Key}
 use Rattle.mdb_base.specs.declared.acts.Act.{Act}
 use Rattle.mdb_base.specs.declared.acts.Act.TheVariants.{Get, Set, Add}
 use Rattle.mdb_base.specs.declared.acts.Step.{Step}
-use Rattle.mdb_base.proofs.BoolLaws.{is_true_both, not_true}
+use Rattle.mdb_base.proofs.ForCallers.{is_true_both, not_true}
 use Rattle.fed_rules.specs.declared.scenario.SiteLine.{SiteLine}
 use Rattle.scenario_text.specs.declared.bad.BadWhy.{BadWhy}
 use Rattle.scenario_text.specs.FirstLines.{BeginsWith, NamesSite, SaysTo}

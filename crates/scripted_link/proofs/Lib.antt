@@ -1,4 +1,5 @@
-pub mod Queues
-pub mod Made
-pub mod Scripts
-pub mod Waiting
+pub mod ForCallers
+mod Queues
+mod Made
+mod Scripts
+mod Waiting

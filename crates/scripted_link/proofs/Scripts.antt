@@ -6,7 +6,7 @@ use Rattle.std.proofs.lemmas.List.{length-map, map-append}
 use Rattle.mdb_base.specs.declared.names.Fate.{Fate}
 use Rattle.mdb_base.specs.declared.names.Fate.TheVariants as Fated
 use Rattle.mdb_base.specs.Words.{Among}
-use Rattle.mdb_base.proofs.EachLaws.{among_split, among_append, among_behind}
+use Rattle.mdb_base.proofs.ForCallers.{among_append, among_behind, among_split}
 use Rattle.scripted_link.specs.declared.script.FateAt.{FateAt}
 use Rattle.scripted_link.specs.Script.{fate_at, copies, due, due_at, at_offer, through_behind}
 use Rattle.scripted_link.specs.Laws.{SeePlacesAlone, WereOffered}

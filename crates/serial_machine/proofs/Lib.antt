@@ -1,3 +1,3 @@
-pub mod Serial
-pub mod SiteRows
-pub mod Steps
+mod Serial
+mod SiteRows
+mod Steps

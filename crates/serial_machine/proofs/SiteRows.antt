@@ -9,7 +9,7 @@ use Rattle.mdb_base.specs.declared.names.SiteId.{SiteId}
 use Rattle.mdb_base.specs.declared.rows.Put.{Put}
 use Rattle.mdb_base.specs.Names.{same_key}
 use Rattle.mdb_base.specs.Rows.{HaveOwnKeys, value_in}
-use Rattle.mdb_base.proofs.RowLaws.{nat_eq-sym}
+use Rattle.mdb_base.proofs.ForCallers.{nat_eq-sym}
 use Rattle.serial_machine.specs.AllTables.{is_place, rows_from}
 
 one_row : (b : Bool) (row : Put) (rows : List Put) (key : Key) → value_in (cond b (row ∷ rows) rows) key ≡ cond (b && same_key row.key key) (Some row.value) (value_in rows key)

@@ -1,6 +1,6 @@
 -- The commands of a session at rest, given to `replay`, print its text again.
 use Rattle.std.proofs.Common.{◌≡◌, ℕ, List, sym, ap, subst, ◌∙◌}
-use Rattle.order_laws.proofs.Reversed.{map_reverse}
+use Rattle.order_laws.proofs.ForCallers.{map_reverse}
 use Rattle.fed_rules.specs.declared.commands.Command.{Command}
 use Rattle.fed_rules.specs.declared.commands.Line.{Line}
 use Rattle.fed_rules.specs.declared.scenario.Scenario.{Scenario}

@@ -1,7 +1,7 @@
 -- How a run ends behind its hosts: what closes its session, and what finishes each transaction alone.
 use Rattle.std.proofs.Common.{◌≡◌, ℕ, Bool, true, List, sym, ap, subst, ◌∙◌, arith}
 use Rattle.mdb_base.specs.Words.{Each}
-use Rattle.mdb_base.proofs.ListLaws.{append_each, each_map}
+use Rattle.mdb_base.proofs.ForCallers.{append_each, each_map}
 use Rattle.fed_rules.specs.declared.commands.Command.{Command}
 use Rattle.fed_rules.specs.declared.commands.Command.TheVariants as Cmd
 use Rattle.fed_rules.specs.declared.commands.Stamped.{Stamped}
@@ -18,8 +18,8 @@ use Rattle.closing_laws.specs.Finished.{FinishedSessionsCommit, HaveAttemptsLeft
 use Rattle.closing.specs.Alone.{CanFinish}
 use Rattle.closing.specs.Steps.{CanClose}
 use Rattle.progress_laws.specs.Added.{ClosingAddsItsOwn, FinishingAddsItsOwn, is_of_clients, is_of_closing}
-use Rattle.progress_laws.proofs.BegunNone.{closing_begins_nothing, keeps_all}
-use Rattle.rules_laws.proofs.Commands.{begins_nothing}
+use Rattle.progress_laws.proofs.ForCallers.{closing_begins_nothing, keeps_all}
+use Rattle.rules_laws.proofs.ForCallers.{begins_nothing}
 use Rattle.fed_world.specs.declared.world.World.{World}
 use Rattle.fed_world.specs.Faults.{faults_of}
 use Rattle.fed_world.specs.FreshWorlds.{Stands}

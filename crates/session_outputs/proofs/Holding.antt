@@ -3,9 +3,9 @@ use Rattle.std.proofs.Common.{◌≡◌, ℕ, zero, suc, Bool, true, false, IsTr
 use Rattle.std.proofs.lemmas.Bool.{not-false}
 use Rattle.mdb_base.specs.declared.names.SiteId.{SiteId}
 use Rattle.mdb_base.specs.Words.{Each}
-use Rattle.mdb_base.proofs.JoinLaws.{nothing_left}
+use Rattle.mdb_base.proofs.ForCallers.{nothing_left}
 use Rattle.order_laws.specs.Chains.{In}
-use Rattle.rules_laws.proofs.Declared.{home-again, its-site}
+use Rattle.rules_laws.proofs.ForCallers.{home-again, its-site}
 use Rattle.fed_rules.specs.declared.commands.Command.{Command}
 use Rattle.fed_rules.specs.declared.events.SiteEvent.{SiteEvent}
 use Rattle.fed_rules.specs.declared.scenario.Scenario.{Scenario}
@@ -18,7 +18,7 @@ use Rattle.fed_rules.specs.Story.{Story, coord_past, happens, past_of, requested
 use Rattle.journal_disk.specs.Disk.{Seen}
 use Rattle.actor_store.specs.declared.errors.StepErr.TheVariants as Step_err
 use Rattle.actor_store.specs.Store.{is_up, stored}
-use Rattle.actor_store.proofs.FromLaws.{all_written}
+use Rattle.actor_store.proofs.ForCallers.{all_written}
 use Rattle.closing_laws.specs.AtRest.{IsAtRest}
 use Rattle.fed_rules.specs.CoordPast.{CoordPast}
 use Rattle.fed_rules.specs.CoordPast as Coordinator
@@ -38,15 +38,13 @@ use Rattle.fed_world.specs.Worlds.{DbmsStands, ManagerStands, StandsBut}
 use Rattle.fed_world.specs.SettingUp.{EmptyBut, IsSetUp, StopsForDisk, StopsForMemory}
 use Rattle.closing.specs.Between.{WereCalm}
 use Rattle.closing.specs.FreshTowards.{BreaksAt}
-use Rattle.closing.proofs.Towards.{calm_since}
+use Rattle.closing.proofs.ForCallers.{calm_since}
 use Rattle.session_outputs.specs.Breaks.{BreaksAtNext, BreaksSetUp}
 use Rattle.left_disks.specs.Holding.{CoordHolds, HoldAll, HoldOthers, HoldsAt, SiteHolds}
 use Rattle.session_outputs.specs.Disks.{AreSetUp, HoldFrames, NothingBut, frames_at, site_frames}
 use Rattle.session_outputs.specs.Outcomes.{StartsShort}
 use Rattle.session_outputs.proofs.NotFound.{before_not_found, coord_not_found, site_not_found, stopped_not_found, within_not_found}
-use Rattle.outputs.proofs.Recalled.{site_held}
-use Rattle.outputs.proofs.Sized.{AreSized, all_sized, numbered, one_at, there_at}
-use Rattle.outputs.proofs.Stops.{coord_stops, site_stops}
+use Rattle.outputs.proofs.ForCallers.{AreSized, all_sized, coord_stops, numbered, one_at, site_held, site_stops, there_at}
 use Rattle.session_outputs.proofs.Stores.{coord_bytes, coord_whole, site_bytes, site_whole}
 
 -- ---- each disk holds what the rules say

@@ -4,11 +4,8 @@ use Rattle.std.proofs.lemmas.Bool.{and_parts, or_left, or_right}
 use Rattle.mdb_base.specs.declared.names.SiteId.{SiteId}
 use Rattle.mdb_base.specs.Names.{same_site}
 use Rattle.mdb_base.specs.Words.{Each, some_of, those}
-use Rattle.mdb_base.proofs.ListLaws.{each_filtered, each_map}
-use Rattle.mdb_base.proofs.EachLaws.{each_of_mapped}
-use Rattle.order_laws.proofs.Lists.{each_at}
-use Rattle.order_laws.proofs.Members.{each_passes}
-use Rattle.order_laws.proofs.InLaws.{each_reverse, slice_get-in}
+use Rattle.mdb_base.proofs.ForCallers.{each_filtered, each_map, each_of_mapped}
+use Rattle.order_laws.proofs.ForCallers.{each_at, each_passes, each_reverse, slice_get-in}
 use Rattle.fed_rules.specs.declared.commands.Command.{Command}
 use Rattle.fed_rules.specs.declared.commands.Command.TheVariants as Cmd
 use Rattle.fed_rules.specs.declared.commands.Line.{Line}
@@ -22,7 +19,7 @@ use Rattle.fed_rules.specs.declared.scenario.StopLine.{StopLine}
 use Rattle.fed_rules.specs.Plans.{IsScenario, declares, is_actor, is_declared, is_stop, stops_actor}
 use Rattle.fed_rules.specs.Scenarios.{home_in, items_of, sites}
 use Rattle.fed_rules.specs.SiteRecords.{Home}
-use Rattle.rules_laws.proofs.Declared.{its-site}
+use Rattle.rules_laws.proofs.ForCallers.{its-site}
 use Rattle.fed_messages.specs.declared.Envelope.{Envelope}
 use Rattle.trace_merge.specs.Traces.{Entry, IsTrace}
 use Rattle.host_laws.specs.CoordHistory.{IsCoordCommand, IsCoordHistory}
@@ -33,8 +30,7 @@ use Rattle.host_laws.specs.Logs.{AreLists, AreLogs, CoordLog, Scripts, SiteLog}
 use Rattle.host_laws.specs.Merged.{commands_of, lines_in}
 use Rattle.host_laws.specs.Plans.{SitePlan}
 use Rattle.host_laws.specs.Turns.{SiteTurn, trips_of}
-use Rattle.host_laws.proofs.CarriedHosts.{by_list}
-use Rattle.host_laws.proofs.CarriedTrace.{each_entry}
+use Rattle.host_laws.proofs.ForCallers.{by_list, each_entry}
 use Rattle.line_laws.specs.Lines.{IsHeard}
 use Rattle.made_laws.specs.Unchecked.{AreUnchecked, is_check}
 

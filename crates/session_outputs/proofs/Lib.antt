@@ -1,3 +1,4 @@
+pub mod ForCallers
 mod Again
 mod Ending
 mod Holding
@@ -11,4 +12,4 @@ mod RunLemmas
 mod Stores
 mod Totals
 mod Unrefused
-pub mod UsedDisks
+mod UsedDisks

@@ -11,7 +11,7 @@ use Rattle.journal_disk.specs.Disk.{Seen}
 use Rattle.fed_world.specs.declared.world.World.{World}
 use Rattle.fed_world.specs.FreshWorlds.{Recalls, Rests}
 use Rattle.fed_world.specs.Worlds.{EachStory}
-use Rattle.fed_world.proofs.RightLines.{right_fresh}
+use Rattle.fed_world.proofs.ForCallers.{recalls, right_fresh}
 use Rattle.fed_rules.specs.Right.{AreLines}
 use Rattle.host_laws.specs.Merged.{commands_of}
 use Rattle.made_laws.specs.Summaries.{MadeLinesAreFixed}
@@ -19,7 +19,6 @@ use Rattle.made_laws.specs.Unchecked.{EndsAreUnchecked}
 use Rattle.progress_laws.specs.Settled.{CommitsAreSettledAtRest}
 use Rattle.line_text.specs.Spelling.{lines_bytes}
 use Rattle.report_text.specs.Summaries.{summary_text}
-use Rattle.fed_world.proofs.Recalled.{recalls}
 use Rattle.outputs.specs.declared.output.Output.{Output}
 use Rattle.outputs.specs.declared.output.Output.TheVariants.{Whole, Broken}
 use Rattle.session_outputs.specs.declared.making.Making.{Making}
@@ -28,7 +27,7 @@ use Rattle.session_outputs.specs.Makes.{IsMakeable, made_scenario, making}
 use Rattle.outputs.specs.Outputs.{IfBroken, IfWhole, IsOutput}
 use Rattle.session_outputs.specs.Runs.{Breaks, host_commands, run_commands}
 use Rattle.outputs.specs.Texts.{disk_failed_text}
-use Rattle.outputs.proofs.Sized.{AreSized}
+use Rattle.outputs.proofs.ForCallers.{AreSized}
 use Rattle.session_outputs.proofs.Holding.{stands_hold_frames}
 use Rattle.session_outputs.proofs.HostsHeard.{hosts_unchecked}
 use Rattle.session_outputs.proofs.Rights.{all_commit, story_right}

@@ -12,14 +12,14 @@ use Rattle.fed_rules.specs.SitePast.{SitePast}
 use Rattle.fed_rules.specs.SiteRecords.{Home}
 use Rattle.fed_rules.specs.Story.{coord_past, past_of, story_of}
 use Rattle.fed_rules.specs.Terms.{Terms}
-use Rattle.rules_laws.proofs.Pasts.{pasts-made}
-use Rattle.commit_laws.proofs.Links.{story_made}
+use Rattle.rules_laws.proofs.ForCallers.{pasts-made}
+use Rattle.commit_laws.proofs.ForCallers.{story_made}
 use Rattle.coord_core.specs.Found as Coord_found
 use Rattle.coord_core.specs.Stands.{stopped_before, stopped_within, with_trip}
-use Rattle.coord_core.proofs.FoundPasts as Coord_pasts
+use Rattle.coord_core.proofs.ForCallers as Coord_pasts
 use Rattle.site_core.specs.Made.{was_found}
 use Rattle.site_core.specs.Stands.{StopAt, Before, Within, behind, stopped_past}
-use Rattle.site_core.proofs.FoundPasts.{next_not_found, past_not_found}
+use Rattle.site_core.proofs.ForCallers.{next_not_found, past_not_found}
 
 -- the coordinator
 pub coord_not_found : (scenario : Scenario) (commands : List Command) → Coord_found.was_found (coord_past (story_of scenario commands)) ≡ false

@@ -21,7 +21,7 @@ use Rattle.session_outputs.specs.Plays.{IsPrinted, closed_with}
 use Rattle.session_outputs.specs.Replays.{Breaks, IsShort, replaying}
 use Rattle.session_outputs.specs.Sessions.{IsFront, IsRight, commands_of, story}
 use Rattle.outputs.specs.Texts.{disk_failed_text}
-use Rattle.outputs.proofs.Sized.{AreSized}
+use Rattle.outputs.proofs.ForCallers.{AreSized}
 use Rattle.session_outputs.proofs.Holding.{stands_hold_all, were_before, world_breaks}
 
 -- the whole output of a session that was carried out

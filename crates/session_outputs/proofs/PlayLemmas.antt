@@ -3,10 +3,8 @@ use Rattle.std.proofs.Common.{◌≡◌, true, IsTrue, List, [], ◌∷◌, ◌+
 use Rattle.std.proofs.lemmas.Bool.{and_parts}
 use Rattle.std.proofs.lemmas.List.{append-nil, length-reverse, reverse-reverse}
 use Rattle.mdb_base.specs.Words.{Each}
-use Rattle.mdb_base.proofs.ListLaws.{each_append, each_map}
-use Rattle.mdb_base.proofs.JoinLaws.{reverse_more}
-use Rattle.order_laws.proofs.Members.{each_passes}
-use Rattle.order_laws.proofs.InLaws.{each_reverse}
+use Rattle.mdb_base.proofs.ForCallers.{each_append, each_map, reverse_more}
+use Rattle.order_laws.proofs.ForCallers.{each_passes, each_reverse}
 use Rattle.fed_rules.specs.declared.commands.Command.{Command}
 use Rattle.fed_rules.specs.declared.commands.Command.TheVariants as Cmd
 use Rattle.fed_rules.specs.declared.commands.Line.{Line}
@@ -17,9 +15,7 @@ use Rattle.fed_rules.specs.Plans.{IsScenario, is_actor}
 use Rattle.fed_rules.specs.Sessions.{fresh}
 use Rattle.closing.specs.FreshTowards.{FitWith}
 use Rattle.closing.specs.Steps.{with_commands}
-use Rattle.closing.proofs.Loops.{each_extends}
-use Rattle.closing.proofs.Parts.{fifth, fifth_in, fifth_on}
-use Rattle.closing.proofs.Towards.{Extends, extends_one, extends_twice}
+use Rattle.closing.proofs.ForCallers.{Extends, each_extends, extends_one, extends_twice, fifth, fifth_in, fifth_on}
 use Rattle.fed_rules.specs.Right.{AreLines}
 use Rattle.line_laws.specs.Lines.{ClosingIsHeard, IsHeard, RightLinesFit}
 use Rattle.scenario_text.specs.declared.session.Session.{Session}

@@ -5,10 +5,9 @@ use Rattle.mdb_base.specs.declared.names.Tid.{Tid}
 use Rattle.mdb_base.specs.declared.names.Tx.{Tx}
 use Rattle.mdb_base.specs.declared.rows.Put.{Put}
 use Rattle.mdb_base.specs.Names.{same_tid, same_tx}
-use Rattle.mdb_base.proofs.NameLaws.{same_tid-refl, same_tx-equal}
+use Rattle.mdb_base.proofs.ForCallers.{same_tid-refl, same_tx-equal}
 use Rattle.order_laws.specs.Chains.{In}
-use Rattle.order_laws.proofs.Merge.{merge_names}
-use Rattle.order_laws.proofs.Names.{tells_tids}
+use Rattle.order_laws.proofs.ForCallers.{merge_names, tells_tids}
 use Rattle.fed_rules.specs.declared.commands.Command.{Command}
 use Rattle.fed_rules.specs.declared.records.CoordRecord.{CoordRecord}
 use Rattle.fed_rules.specs.declared.records.CoordRecord.TheVariants as Coord_rec
@@ -29,9 +28,7 @@ use Rattle.fed_rules.specs.Story.{Story, coord_past, past_of, story_of}
 use Rattle.closing_laws.specs.AtRest.{IsAtRest}
 use Rattle.closing_laws.specs.Finished.{AllFinished}
 use Rattle.progress_laws.specs.Settled.{CommitsAreSettledAtRest}
-use Rattle.federation_laws.proofs.Declared.{order-of}
-use Rattle.federation_laws.proofs.Members.{IsMember, AsLocal, AsGlobal, member-of}
-use Rattle.federation_laws.proofs.Told.{local_home-declared}
+use Rattle.federation_laws.proofs.ForCallers.{AsGlobal, AsLocal, IsMember, local_home-declared, member-of, order-of}
 use Rattle.session_outputs.specs.Sessions.{AllCommit, AreSettled, HasCommitted, IsRight}
 
 -- a member of a site's order committed

@@ -31,7 +31,7 @@ use Rattle.session_outputs.specs.Sessions.{IsFront}
 use Rattle.outputs.specs.Texts.{disk_failed_text}
 use Rattle.session_outputs.proofs.Again.{replays_alike}
 use Rattle.session_outputs.proofs.Ending.{run_heard}
-use Rattle.outputs.proofs.Sized.{AreSized}
+use Rattle.outputs.proofs.ForCallers.{AreSized}
 use Rattle.session_outputs.proofs.Holding.{stands_hold_frames, starts_broken, were_before, world_breaks}
 use Rattle.session_outputs.proofs.HostsHeard.{hosts_heard}
 use Rattle.session_outputs.proofs.OutputLemmas.{front_before}

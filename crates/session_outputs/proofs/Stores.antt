@@ -9,12 +9,11 @@ use Rattle.fed_rules.specs.SiteRecords.{site_frame}
 use Rattle.journal_disk.specs.Disk.{Image, Seen}
 use Rattle.journal_disk.specs.Frames.{Frame, frames}
 use Rattle.frame_journal.specs.Records.{AreRecordsOf, as_written, entry_frame, spelled}
-use Rattle.frame_journal.proofs.Keeping.{none_is_part}
+use Rattle.frame_journal.proofs.ForCallers.{none_is_part}
 use Rattle.journal_rules.specs.Stands.{CountsFrames, record_frame}
-use Rattle.journal_rules.proofs.Journals.{all_standing}
-use Rattle.journal_rules.proofs.Keeps.{journal_stands}
+use Rattle.journal_rules.proofs.ForCallers.{all_standing, journal_stands}
 use Rattle.actor_store.specs.Store.{HoldsBytes, Keeps, Stored, is_up, taken_as}
-use Rattle.actor_store.proofs.StoreLaws.{sizes, taken_bytes, torn_bytes}
+use Rattle.actor_store.proofs.ForCallers.{sizes, taken_bytes, torn_bytes}
 use Rattle.coord_journal.specs.Exact as coord_exact
 use Rattle.coord_journal.specs.Frames as coord_frames
 use Rattle.coord_journal.specs.Spelling as of_coordinator
@@ -22,7 +21,7 @@ use Rattle.site_journal.specs.Exact as site_exact
 use Rattle.site_journal.specs.Frames as site_frames
 use Rattle.site_journal.specs.Spelling as of_site
 use Rattle.left_disks.specs.Holding.{HoldsRecords}
-use Rattle.outputs.proofs.Stores.{nothing_behind}
+use Rattle.outputs.proofs.ForCallers.{nothing_behind}
 
 module _ {R : Type 0} (spelling : R → List ℕ) (reading : List ℕ → Option R) (is_record : R → Type 0) (frame_bytes : R → ℕ) (counts : CountsFrames spelling frame_bytes) (again : (entry : R) → is_record entry → reading (spelling entry) ≡ Some entry) where
   -- the bytes on a store's disk are those of the rules, and each record is one of the format

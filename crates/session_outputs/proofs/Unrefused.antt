@@ -1,7 +1,7 @@
 -- Where tickets are taken conservatively, no line of right ones refuses a commit for a cycle.
 use Rattle.std.proofs.Common.{List, reverse, subst}
 use Rattle.std.proofs.lemmas.List.{reverse-reverse}
-use Rattle.order_laws.proofs.InLaws.{each_reverse}
+use Rattle.order_laws.proofs.ForCallers.{each_reverse}
 use Rattle.fed_rules.specs.declared.commands.Command.{Command}
 use Rattle.fed_rules.specs.declared.commands.Line.{Line}
 use Rattle.fed_rules.specs.declared.scenario.Scenario.{Scenario}

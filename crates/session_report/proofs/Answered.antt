@@ -16,7 +16,7 @@ use Rattle.fed_rules.specs.declared.messages.ToSite.TheVariants as To
 use Rattle.fed_rules.specs.Happenings.{Trip, is_down, quiet, stopped, tripped}
 use Rattle.fed_rules.specs.Site.{act_answer, answered, refusal_answer, reply_to, site_line, of_begin, of_act, seals_local, of_commit, of_abort, of_fate, did, unknown, first_work, next_work, next_take, repeated, work_live, of_work, take_live, of_take, votes_again, votes_no, votes_yes, seals_global, prepare_live, of_prepare, settles, unheld, of_decide, of_give, of_ask, of_drop, of_back, of_check}
 use Rattle.fed_rules.specs.SitePast.{SiteHappening, SitePast, attempts_of, disk, live_of_tx, trip}
-use Rattle.site_history.proofs.LineAnswers.{act_answer-is, refusal_answer-is}
+use Rattle.site_history.proofs.ForCallers.{act_answer-is, refusal_answer-is}
 use Rattle.fed_rules.specs.SiteRecords.{Home, site_frame}
 
 -- the answer begins an attempt only by a `begin` of it, where none of its transaction is live

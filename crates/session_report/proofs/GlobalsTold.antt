@@ -8,8 +8,7 @@ use Rattle.mdb_base.specs.declared.replies.Reply.{Reply}
 use Rattle.mdb_base.specs.declared.replies.Reply.TheVariants as Reply_is
 use Rattle.mdb_base.specs.Names.{same_tid, tid_before}
 use Rattle.mdb_base.specs.Words.{found, inserted, item_at, map_some, with_some}
-use Rattle.mdb_base.proofs.NameLaws.{same_tid-refl}
-use Rattle.mdb_base.proofs.PlaceLaws.{item_at-front}
+use Rattle.mdb_base.proofs.ForCallers.{item_at-front, same_tid-refl}
 use Rattle.fed_rules.specs.declared.answers.Answer.{Answer}
 use Rattle.fed_rules.specs.declared.answers.Answer.TheVariants as Say
 use Rattle.fed_rules.specs.declared.answers.Cause.TheVariants as For
@@ -32,14 +31,11 @@ use Rattle.fed_rules.specs.Scenarios.{policy, protocols}
 use Rattle.fed_rules.specs.SiteRecords.{Home}
 use Rattle.fed_rules.specs.Story.{Story, Happened, AtSite, AtCoordinator, Nowhere, coord_past, happens, sends_from, sent_from, story_of, with_coordinator}
 use Rattle.rules_laws.specs.Lines as Lines
-use Rattle.rules_laws.proofs.Lines as Asked
-use Rattle.rules_laws.proofs.CoordPasts.{IsNoGo}
-use Rattle.coord_laws.proofs.Made.{Begins, IsMade}
-use Rattle.coord_laws.proofs.MadeLines.{coord_made}
-use Rattle.federation_laws.proofs.CoordHolds.{begun-next, is_begun}
-use Rattle.federation_laws.proofs.StoryGlobals.{coord-made, fresh-line, story-holds}
-use Rattle.federation_laws.proofs.Told as Fed
-use Rattle.federation_laws.proofs.Dues.{reads_of}
+use Rattle.rules_laws.proofs.ForCallers as Asked
+use Rattle.rules_laws.proofs.ForCallers.{IsNoGo}
+use Rattle.coord_laws.proofs.ForCallers.{Begins, IsMade, coord_made}
+use Rattle.federation_laws.proofs.ForCallers.{begun-next, coord-made, fresh-line, is_begun, reads_of, story-holds}
+use Rattle.federation_laws.proofs.ForCallers as Fed
 use Rattle.session_routes.specs.declared.traffic.Traffic.{Traffic}
 use Rattle.session_report.specs.Told.{Reads, Told, after_begin, after_command, after_step, is_counted, message_at, told_by, with_begun, with_go, with_reply, with_taken, with_value}
 use Rattle.session_report.proofs.Lookups.{look, look_begun, look_value, tids_begun, tids_of, tids_value}

@@ -4,8 +4,7 @@ use Rattle.mdb_base.specs.declared.names.SiteId.{SiteId}
 use Rattle.mdb_base.specs.declared.names.Tid.{Tid}
 use Rattle.mdb_base.specs.declared.names.Tx.{Tx}
 use Rattle.mdb_base.specs.Names.{same_site, same_tx}
-use Rattle.mdb_base.proofs.NameLaws.{same_tx-equal, same_site-equal}
-use Rattle.mdb_base.proofs.OptionLaws.{some_parts}
+use Rattle.mdb_base.proofs.ForCallers.{same_site-equal, same_tx-equal, some_parts}
 use Rattle.fed_rules.specs.declared.answers.Answer.{Answer}
 use Rattle.fed_rules.specs.declared.answers.Answer.TheVariants as Say
 use Rattle.fed_rules.specs.declared.commands.Command.{Command}
@@ -21,11 +20,8 @@ use Rattle.fed_rules.specs.SitePast.{SiteHappening, SitePast, begins_tx, engine_
 use Rattle.fed_rules.specs.SiteRecords.{Home}
 use Rattle.fed_rules.specs.Story.{Happened, AtSite, AtCoordinator, Nowhere, happens, past_of, story_of, with_site}
 use Rattle.site_history.specs.Stories.{StoriesHaveRightLines}
-use Rattle.site_history.proofs.LiveOnes.{none_live}
-use Rattle.federation_laws.proofs.LocalLines.{local-made}
-use Rattle.federation_laws.proofs.LocalMoves.{LocalMove, Made, Rests, Gone, Opening, Granting, Closing}
-use Rattle.federation_laws.proofs.LocalStories.{not-asked}
-use Rattle.federation_laws.proofs.Told.{IsLine, IsSiteLine, SiteCause, line_is}
+use Rattle.site_history.proofs.ForCallers.{none_live}
+use Rattle.federation_laws.proofs.ForCallers.{Closing, Gone, Granting, IsLine, IsSiteLine, LocalMove, Made, Opening, Rests, SiteCause, line_is, local-made, not-asked}
 use Rattle.session_report.proofs.Answered.{BeginsSo, site_says}
 
 -- the attempt of the transaction that the answer begins

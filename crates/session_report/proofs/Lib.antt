@@ -1,17 +1,18 @@
-pub mod Answered
-pub mod GlobalsTold
-pub mod LastBegun
-pub mod LineForms
-pub mod LineMarks
-pub mod Lists
-pub mod LocalsTold
-pub mod Lookups
-pub mod MarkedDisks
-pub mod Members
-pub mod OrdersTold
-pub mod OutcomesTold
-pub mod Ranking
-pub mod ReadEntries
-pub mod ReportIs
-pub mod Silences
-pub mod ToldOn
+pub mod ForCallers
+mod Answered
+mod GlobalsTold
+mod LastBegun
+mod LineForms
+mod LineMarks
+mod Lists
+mod LocalsTold
+mod Lookups
+mod MarkedDisks
+mod Members
+mod OrdersTold
+mod OutcomesTold
+mod Ranking
+mod ReadEntries
+mod ReportIs
+mod Silences
+mod ToldOn

@@ -1,6 +1,6 @@
 -- Items of a list by their places, and lists that are turned round.
 use Rattle.std.proofs.Common.{◌≡◌, List, [], ◌∷◌, ◌++◌, reverse, refl, sym, ap, ◌∙◌}
-use Rattle.mdb_base.proofs.JoinLaws.{reverse_more}
+use Rattle.mdb_base.proofs.ForCallers.{reverse_more}
 use Rattle.fed_rules.specs.CoordPast.{oldest_first}
 
 -- the oldest first

@@ -7,8 +7,7 @@ use Rattle.mdb_base.specs.declared.names.Tid.{Tid}
 use Rattle.mdb_base.specs.declared.names.Tx.{Tx}
 use Rattle.mdb_base.specs.Names.{same_site, same_tid, same_tx, tx_cmp}
 use Rattle.mdb_base.specs.Words.{found, map_some, or_else, with_some}
-use Rattle.mdb_base.proofs.NameLaws.{same_tx-equal, same_site-refl, same_tid-equal, same_tid-refl}
-use Rattle.mdb_base.proofs.OptionLaws.{some_parts}
+use Rattle.mdb_base.proofs.ForCallers.{same_site-refl, same_tid-equal, same_tid-refl, same_tx-equal, some_parts}
 use Rattle.fed_rules.specs.declared.answers.Answer.{Answer}
 use Rattle.fed_rules.specs.declared.answers.Answer.TheVariants as Say
 use Rattle.fed_rules.specs.declared.commands.Command.{Command}
@@ -28,10 +27,10 @@ use Rattle.fed_rules.specs.SitePast.{SiteHappening, SitePast, attempts_of}
 use Rattle.fed_rules.specs.SiteRecords.{Home}
 use Rattle.fed_rules.specs.Story.{Story, Happened, AtSite, AtCoordinator, Nowhere, happens, past_of, story_of}
 use Rattle.rules_laws.specs.Lines as Lines
-use Rattle.rules_laws.proofs.Lines as Asked
-use Rattle.rules_laws.proofs.SitePasts.{live_is_of, BeginsNone as NoBegin}
+use Rattle.rules_laws.proofs.ForCallers as Asked
+use Rattle.rules_laws.proofs.ForCallers.{BeginsNone as NoBegin, live_is_of}
 use Rattle.site_history.specs.Stories.{StoriesHaveRightLines}
-use Rattle.federation_laws.proofs.LocalStories.{local-story}
+use Rattle.federation_laws.proofs.ForCallers.{local-story}
 use Rattle.session_routes.specs.declared.traffic.Traffic.{Traffic}
 use Rattle.session_report.specs.Told.{Told, after_begin, after_command, after_step, told_by, with_begun, with_step, with_value}
 use Rattle.session_report.proofs.Answered.{BeginsSo, Says, site_says}

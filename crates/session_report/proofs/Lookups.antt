@@ -11,9 +11,8 @@ use Rattle.mdb_base.specs.declared.names.Tid.{Tid}
 use Rattle.mdb_base.specs.declared.names.Tx.{Tx}
 use Rattle.mdb_base.specs.Names.{same_tid, same_tx, tid_before, tid_cmp, tx_cmp}
 use Rattle.mdb_base.specs.Words.{inserted, map_some}
-use Rattle.mdb_base.proofs.NameLaws.{same_tx-equal, same_tx-refl, same_tid-equal, same_tid-refl}
+use Rattle.mdb_base.proofs.ForCallers.{same_tid-equal, same_tid-refl, same_tx-equal, same_tx-refl, tid_ties, tx_ties}
 use Rattle.session_report.specs.Told.{Reads, with_begun, with_value}
-use Rattle.mdb_base.proofs.NameOrders.{tx_ties, tid_ties}
 use Rattle.session_report.proofs.ReadEntries.{viewed}
 
 module _ {K : Type 0} (cmp : K → K → Ordering) (same : K → K → Bool) (ties : (a b : K) → is_at (cmp a) b ≡ same a b) (alike : (a b : K) → same a b ≡ true → a ≡ b) (self : (a : K) → same a a ≡ true) where

@@ -5,12 +5,11 @@ use Rattle.std.proofs.lemmas.List.{take_more, drop_more}
 use Rattle.mdb_base.specs.declared.names.Tid.{Tid}
 use Rattle.mdb_base.specs.Names.{same_tid, tid_cmp}
 use Rattle.mdb_base.specs.Words.{those}
-use Rattle.mdb_base.proofs.JoinLaws.{append_nil}
+use Rattle.mdb_base.proofs.ForCallers.{append_nil, tid_ties}
 use Rattle.fed_rules.specs.declared.report.Outcome.{Outcome}
 use Rattle.session_report.specs.declared.marks.Mark.{Mark}
 use Rattle.session_report.specs.Outcomes.{is_abort, is_refused, refuses}
 use Rattle.session_report.specs.Ranks.{unrefused}
-use Rattle.mdb_base.proofs.NameOrders.{tid_ties}
 
 those_push : {A : Type 0} (test : A → Bool) (xs : List A) (y : A) → those test (xs ++ y ∷ []) ≡ those test xs ++ cond (test y) (y ∷ []) []
 those_push test [] y = refl

@@ -5,7 +5,7 @@ use Rattle.mdb_base.specs.declared.names.Tid.{Tid}
 use Rattle.mdb_base.specs.declared.rows.Put.{Put}
 use Rattle.mdb_base.specs.Words.{found, inserted}
 use Rattle.order_laws.specs.Chains.{In}
-use Rattle.order_laws.proofs.Reversed.{map_reverse}
+use Rattle.order_laws.proofs.ForCallers.{map_reverse}
 use Rattle.fed_rules.specs.declared.records.SiteRecord.{SiteRecord}
 use Rattle.fed_rules.specs.declared.records.SiteRecord.TheVariants as Rec
 use Rattle.fed_rules.specs.CoordPast.{oldest_first}

@@ -5,15 +5,14 @@ use Rattle.mdb_base.specs.declared.names.Tid.{Tid}
 use Rattle.mdb_base.specs.declared.names.Tx.{Tx}
 use Rattle.mdb_base.specs.Names.{same_tid, same_tx, tid_cmp}
 use Rattle.mdb_base.specs.Words.{holds_of, some_of}
-use Rattle.mdb_base.proofs.NameLaws.{same_tx-refl, same_tid-equal, same_tid-refl, same_tid-sym}
+use Rattle.mdb_base.proofs.ForCallers.{same_tid-equal, same_tid-refl, same_tid-sym, same_tx-refl, tid_ties}
 use Rattle.presumptions.specs.declared.Decision.TheVariants as Decided
 use Rattle.fed_rules.specs.declared.records.CoordRecord.{CoordRecord}
 use Rattle.fed_rules.specs.declared.records.CoordRecord.TheVariants as Rec
 use Rattle.fed_rules.specs.CoordRecords.{committed_of, has_commit, outcome}
-use Rattle.rules_laws.proofs.CoordRecords.{some_committed}
+use Rattle.rules_laws.proofs.ForCallers.{some_committed}
 use Rattle.session_report.specs.Outcomes.{decision_by, is_abort, is_refused, outcomes_by}
 use Rattle.session_report.specs.Told.{Reads}
-use Rattle.mdb_base.proofs.NameOrders.{tid_ties}
 use Rattle.session_report.proofs.Lookups.{look, tids_of}
 
 -- where none is found, no attempt of the transaction has one

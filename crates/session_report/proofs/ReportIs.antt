@@ -7,15 +7,12 @@ use Rattle.mdb_base.specs.declared.rows.Put.{Put}
 use Rattle.mdb_base.specs.declared.rows.SiteRows.{SiteRows}
 use Rattle.mdb_base.specs.Names.{same_site, same_tid, tid_before}
 use Rattle.mdb_base.specs.Words.{Among, Each, item_at, or_else, some_of, those}
-use Rattle.mdb_base.proofs.ListLaws.{each_inserted}
-use Rattle.mdb_base.proofs.NameLaws.{same_site-equal, same_site-refl}
+use Rattle.mdb_base.proofs.ForCallers.{each_inserted, same_site-equal, same_site-refl}
 use Rattle.presumptions.specs.declared.Participant.{Participant}
 use Rattle.order_laws.specs.Chains.{In}
 use Rattle.order_laws.specs.Merge as merge
 use Rattle.order_laws.specs.Orders.{is_in}
-use Rattle.order_laws.proofs.Lists.{each_of_at, is_in_true, some_of_is}
-use Rattle.order_laws.proofs.Names.{tells_tids}
-use Rattle.order_laws.proofs.Reversed.{map_same}
+use Rattle.order_laws.proofs.ForCallers.{each_of_at, is_in_true, map_same, some_of_is, tells_tids}
 use Rattle.fed_rules.specs.declared.commands.Command.{Command}
 use Rattle.fed_rules.specs.declared.commands.Line.{Line}
 use Rattle.fed_rules.specs.declared.messages.FromSite.{FromSite}
@@ -35,19 +32,10 @@ use Rattle.fed_rules.specs.SitePast.{records}
 use Rattle.fed_rules.specs.SiteRecords.{Home, order_of}
 use Rattle.fed_rules.specs.Story.{Story, coord_past, past_of, sent_from, story_of}
 use Rattle.commit_laws.specs.Records.{IsPrepared}
-use Rattle.commit_laws.proofs.Agreed.{agreed}
-use Rattle.commit_laws.proofs.Declared.{is-declared}
+use Rattle.commit_laws.proofs.ForCallers.{agreed, declared_sends, is-declared}
 use Rattle.site_history.specs.Stories.{StoriesHaveRightLines}
-use Rattle.commit_laws.proofs.Silent.{declared_sends}
 use Rattle.federation_laws.specs.OneOrder.{HasOneOrder, OfStories}
-use Rattle.federation_laws.proofs.CoordHolds.{begun-next, is_begun}
-use Rattle.federation_laws.proofs.Declared.{member-declared}
-use Rattle.federation_laws.proofs.LocalStories.{local-record}
-use Rattle.federation_laws.proofs.Memberships.{Kind, AtHome, Roaming, kind-of}
-use Rattle.federation_laws.proofs.OnceGlobal.{global-once}
-use Rattle.federation_laws.proofs.StoryGlobals.{story-holds}
-use Rattle.federation_laws.proofs.Told.{home-again}
-use Rattle.federation_laws.proofs.Headlines.{none_rising}
+use Rattle.federation_laws.proofs.ForCallers.{AtHome, Kind, Roaming, begun-next, global-once, home-again, is_begun, kind-of, local-record, member-declared, none_rising, story-holds}
 use Rattle.session_report.specs.declared.gathering.Gathered.{Gathered}
 use Rattle.session_report.specs.declared.marks.Marks.{Marks}
 use Rattle.session_routes.specs.declared.traffic.Traffic.{Traffic}

@@ -1,6 +1,6 @@
 -- What lines tell, taken from the first on and from the last back.
 use Rattle.std.proofs.Common.{◌≡◌, List, [], ◌∷◌, ◌++◌, reverse, refl, sym, ap, ◌∙◌}
-use Rattle.mdb_base.proofs.JoinLaws.{reverse_more}
+use Rattle.mdb_base.proofs.ForCallers.{reverse_more}
 use Rattle.fed_rules.specs.declared.commands.Line.{Line}
 use Rattle.session_routes.specs.declared.traffic.Traffic.{Traffic}
 use Rattle.session_report.specs.Told.{Told, after_line, told_by, told_on, untold}

@@ -10,12 +10,11 @@ use Rattle.mdb_base.specs.Names.{same_site, same_key}
 use Rattle.mdb_base.specs.Rising.{IsRising}
 use Rattle.mdb_base.specs.Rows.{HaveOwnKeys, value_in, with_row}
 use Rattle.mdb_base.specs.Words.{some_of}
-use Rattle.mdb_base.proofs.RowLaws.{same_rows, value_in-with_row}
-use Rattle.mdb_base.proofs.NameLaws.{same_site-equal}
+use Rattle.mdb_base.proofs.ForCallers.{same_rows, same_site-equal, value_in-with_row}
 use Rattle.fed_rules.specs.declared.scenario.ItemLine.{ItemLine}
 use Rattle.fed_rules.specs.Plans.{all_differ, one_row}
 use Rattle.fed_rules.specs.Scenarios.{items_of}
-use Rattle.engine_laws.proofs.Rows.{rising_items}
+use Rattle.engine_laws.proofs.ForCallers.{rising_items}
 use Rattle.session_routes.specs.Rows.{rows_at, DifferInRow}
 
 -- the rows of a site in their order are found as those of its items

@@ -1,5 +1,6 @@
-pub mod FirstRows
-pub mod Homes
-pub mod Places
-pub mod Posts
-pub mod Put
+pub mod ForCallers
+mod FirstRows
+mod Homes
+mod Places
+mod Posts
+mod Put

@@ -1,7 +1,7 @@
 -- What is posted in the channels, one after another.
 use Rattle.std.proofs.Common.{◌≡◌, ℕ, zero, suc, ◌+◌, ◌<◌, ◌≤◌, ◌==◌, Bool, true, false, Some, List, [], ◌∷◌, ◌++◌, length, take, slice_get, slice_set, option_to_list, refl, sym, ap, ◌∙◌, subst, eqb-true, eq-eqb, arith}
 use Rattle.std.proofs.lemmas.Option.{same_Some}
-use Rattle.mdb_base.proofs.PlaceLaws.{found_next}
+use Rattle.mdb_base.proofs.ForCallers.{found_next}
 use Rattle.fed_rules.specs.declared.commands.Place.{Place}
 use Rattle.fed_rules.specs.declared.messages.Sent.{Sent}
 use Rattle.session_routes.specs.declared.traffic.Traffic.{Traffic}

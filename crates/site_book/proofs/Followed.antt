@@ -9,18 +9,16 @@ use Rattle.mdb_base.specs.declared.replies.Reply.{Reply}
 use Rattle.mdb_base.specs.declared.replies.Reply.TheVariants as Reply_is
 use Rattle.mdb_base.specs.Names.{same_tid}
 use Rattle.mdb_base.specs.Words.{holds_of, map_some, or_else}
-use Rattle.mdb_base.proofs.NameLaws.{same_tid-equal}
-use Rattle.mdb_base.proofs.BoolLaws.{and_false, and_true}
+use Rattle.mdb_base.proofs.ForCallers.{and_false, and_true, same_tid-equal, tid_ties, tids_exact, tids_total}
 use Rattle.fed_rules.specs.Runs.{Start, EngineLine, Begins, Acts, Takes, Seals, Refuses, Commits, Aborts, Got, Wrote, Run, run_at, changed, acted, took, tid_of, gives_up, is_sealed}
 use Rattle.fed_rules.specs.SitePast.{ends, live_one}
-use Rattle.engine_laws.proofs.RunLines.{abort_ends}
+use Rattle.engine_laws.proofs.ForCallers.{abort_ends}
 use Rattle.site_book.specs.declared.progress.Progress.{Progress}
 use Rattle.site_book.specs.declared.progress.Progress.TheVariants as Is
 use Rattle.site_book.specs.Noted.{Noted, noted_of, fresh, with_read, with_write}
 use Rattle.site_book.specs.Book.{Book, Attempts, progress_of, live_part, live_in, sealed_part, closed_part, is_closed_in, changed_in, on_live, replied, taken, enters, notes_reply, notes_take}
 use Rattle.site_book.specs.Follows.{Follows, progress_by}
 use Rattle.site_book.specs.Laws.{AnswersBy, AnswersWell, ClosesBy, CallsWell, CommitsWell, DecidesWell, StaysClosed}
-use Rattle.mdb_base.proofs.NameOrders.{tid_ties, tids_total, tids_exact}
 use Rattle.site_book.proofs.Maps.{get-put, put-put}
 
 -- how far an attempt is after one is put in or changed

@@ -6,10 +6,9 @@ use Rattle.mdb_base.specs.declared.names.Tid.{Tid}
 use Rattle.mdb_base.specs.declared.names.Tx.{Tx}
 use Rattle.mdb_base.specs.Names.{same_tid, same_tx, tid_cmp, tx_cmp}
 use Rattle.mdb_base.specs.Words.{Among, found, first_where, map_some, with_some}
-use Rattle.mdb_base.proofs.NameLaws.{same_tid-refl, same_tid-equal, same_tx-equal, same_tx-refl}
-use Rattle.mdb_base.proofs.OptionLaws.{nothing_is, is_some-true}
+use Rattle.mdb_base.proofs.ForCallers.{is_some-true, nothing_is, same_tid-equal, same_tid-refl, same_tx-equal, same_tx-refl}
 use Rattle.fed_rules.specs.Runs.{Run, attempts, is_sealed, run_at, unended}
-use Rattle.engine_laws.proofs.Runs.{attempts_have, tid_is}
+use Rattle.engine_laws.proofs.ForCallers.{attempts_have, tid_is}
 use Rattle.site_book.specs.declared.progress.Progress.{Progress}
 use Rattle.site_book.specs.declared.progress.Progress.TheVariants as Is
 use Rattle.site_book.specs.declared.progress.Standing.{Standing}

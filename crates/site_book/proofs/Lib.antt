@@ -1,9 +1,10 @@
-pub mod Followed
-pub mod InOrder
-pub mod Listed
-pub mod Maps
-pub mod NamedMaps
-pub mod Numbered
-pub mod Ordered
-pub mod Starts
-pub mod Undone
+pub mod ForCallers
+mod Followed
+mod InOrder
+mod Listed
+mod Maps
+mod NamedMaps
+mod Numbered
+mod Ordered
+mod Starts
+mod Undone

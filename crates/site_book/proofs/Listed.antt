@@ -11,10 +11,7 @@ use Rattle.std.proofs.lemmas.Map.Keys.{IsDistinct-IsPermutation, apart_from_dist
 use Rattle.mdb_base.specs.declared.names.Tid.{Tid}
 use Rattle.mdb_base.specs.Names.{same_tid, tid_before, tid_cmp}
 use Rattle.mdb_base.specs.Words.{Among, Each}
-use Rattle.mdb_base.proofs.EachLaws.{each_recursion}
-use Rattle.mdb_base.proofs.ListLaws.{each_among}
-use Rattle.mdb_base.proofs.NameLaws.{same_tid-equal, same_tid-refl, same_tid-sym}
-use Rattle.mdb_base.proofs.NameOrders.{less_before, tids_total}
+use Rattle.mdb_base.proofs.ForCallers.{each_among, each_recursion, less_before, same_tid-equal, same_tid-refl, same_tid-sym, tids_total}
 use Rattle.site_book.specs.declared.attempt_map.Name.{Name}
 use Rattle.site_book.specs.declared.progress.Progress.{Progress}
 use Rattle.site_book.specs.Book.{live_part}

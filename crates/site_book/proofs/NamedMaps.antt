@@ -5,7 +5,7 @@ use Rattle.std.specs.Map.{lookup}
 use Rattle.mdb_base.specs.declared.names.Tid.{Tid}
 use Rattle.mdb_base.specs.Names.{same_tid}
 use Rattle.mdb_base.specs.Words.{map_some, or_else}
-use Rattle.mdb_base.proofs.NameOrders.{tid_ties, tids_exact, tids_total}
+use Rattle.mdb_base.proofs.ForCallers.{tid_ties, tids_exact, tids_total}
 use Rattle.site_book.specs.declared.attempt_map.Name.{Name}
 use Rattle.site_book.specs.declared.progress.Progress.{Progress}
 use Rattle.site_book.specs.Book.{changed_in}

@@ -9,7 +9,7 @@ use Rattle.mdb_base.specs.declared.names.Tx.{Tx}
 use Rattle.mdb_base.specs.Names.{same_tx, tx_cmp}
 use Rattle.mdb_base.specs.Words.{or_else}
 use Rattle.site_book.specs.Numbered.{by_number, items_from}
-use Rattle.mdb_base.proofs.NameOrders.{tx_ties, txs_total, txs_exact}
+use Rattle.mdb_base.proofs.ForCallers.{tx_ties, txs_exact, txs_total}
 use Rattle.site_book.proofs.Maps.{get-gone, get-put, get_look, look, same}
 
 -- what stands at this place, where anything does

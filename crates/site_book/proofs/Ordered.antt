@@ -4,12 +4,11 @@ use Rattle.std.specs.FinMap.{FinMap, empty, get, insert, remove, get-empty}
 use Rattle.mdb_base.specs.declared.names.Tid.{Tid}
 use Rattle.mdb_base.specs.declared.names.Tx.{Tx}
 use Rattle.mdb_base.specs.Names.{same_tid, same_tx, tx_cmp}
-use Rattle.mdb_base.proofs.NameLaws.{same_tid-equal, same_tx-equal}
+use Rattle.mdb_base.proofs.ForCallers.{same_tid-equal, same_tx-equal, tx_ties, txs_exact, txs_total}
 use Rattle.site_book.specs.declared.progress.Standing.{Standing}
 use Rattle.site_book.specs.declared.progress.Standing.TheVariants as Has
 use Rattle.site_book.specs.Book.{Book, Standings, Counts, committed_part, committed_in, count_of, counted, replied, taken, refuses, runs, not_running, closes, changes_live, with_committed}
 use Rattle.site_book.specs.Calls.{Begin_global, Begin_local, Note_reply, Note_take, Seal, Close, Close_unheld, Commit_local, Stop, Restart, book_after, CountsWell, RemembersWell, last_of}
-use Rattle.mdb_base.proofs.NameOrders.{tx_ties, txs_total, txs_exact}
 use Rattle.site_book.proofs.Maps.{get-put, get-gone}
 
 -- what stands at a transaction after something is put in or taken out

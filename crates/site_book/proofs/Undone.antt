@@ -11,7 +11,7 @@ use Rattle.site_book.specs.declared.progress.Standing.{Standing}
 use Rattle.site_book.specs.declared.progress.Standing.TheVariants as Has
 use Rattle.site_book.specs.Noted.{fresh}
 use Rattle.site_book.specs.Book.{Book, Attempts, Standings, Counts, progress_of, standing_of, running_part, running_in, committed_part, committed_in, count_of, counted, uncounted, uncounted_from, enters, forgets, begins_local, unbegins_local}
-use Rattle.mdb_base.proofs.NameOrders.{txs_total, txs_exact, tids_total, tids_exact}
+use Rattle.mdb_base.proofs.ForCallers.{tids_exact, tids_total, txs_exact, txs_total}
 use Rattle.site_book.proofs.Maps.{get-put, gone-put, put-put, put-same}
 
 -- a book of these parts

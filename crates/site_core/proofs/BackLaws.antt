@@ -35,23 +35,21 @@ use Rattle.actor_store.specs.declared.store.Break.TheVariants.{Stopped, Failed}
 use Rattle.actor_store.specs.declared.store.Standing.{Standing}
 use Rattle.actor_store.specs.declared.store.Standing.TheVariants.{Up, Down, Failing}
 use Rattle.actor_store.specs.Store.{Passes, is_up}
-use Rattle.actor_store.proofs.StoreLaws.{settled}
-use Rattle.rules_laws.proofs.SiteRecords.{epoch_same}
-use Rattle.site_history.proofs.Restarts.{once_doubts}
+use Rattle.actor_store.proofs.ForCallers.{from_later, from_trip, settled}
+use Rattle.rules_laws.proofs.ForCallers.{epoch_same}
+use Rattle.site_history.proofs.ForCallers.{all_within, once_doubts}
 use Rattle.site_book.specs.Book.{Book, begun_in, committed_in, restarted}
 use Rattle.site_book.specs.Follows.{Follows, progress_by}
-use Rattle.actor_store.proofs.FromLaws.{from_later, from_trip}
 use Rattle.site_core.specs.Order.{IsInOrder}
-use Rattle.site_book.proofs.Starts as Book_starts
+use Rattle.site_book.proofs.ForCallers as Book_starts
 use Rattle.site_core.specs.declared.site.SiteCore.{SiteCore}
 use Rattle.site_core.specs.Made.{IsGoingOn, opens, was_found}
 use Rattle.site_core.specs.Notes.{Notes}
 use Rattle.site_core.specs.Recovered.{held_tid}
 use Rattle.site_core.specs.Stands.{Answers, Breaks, Carries, IsIn, IsOfKind, IsStopped, IsUp, Remembers, Stands}
 use Rattle.site_core.specs.Store.{Ends, Keeps, Store, cut_calls}
-use Rattle.site_history.proofs.Founded.{all_within}
-use Rattle.commit_laws.proofs.SiteShut.{restored-sealed}
-use Rattle.journal_sums.proofs.DifferLaws.{apart_once}
+use Rattle.commit_laws.proofs.ForCallers.{restored-sealed}
+use Rattle.journal_sums.proofs.ForCallers.{apart_once}
 use Rattle.site_core.proofs.MadeLaws.{made_starts}
 use Rattle.site_core.proofs.NotesLaws.{IsKnown, order_restarted}
 use Rattle.site_core.proofs.OnceLaws.{AppendsOnce, once_calls, once_stopped}

@@ -7,8 +7,7 @@ use Rattle.mdb_base.specs.declared.rows.Put.{Put}
 use Rattle.mdb_base.specs.declared.replies.Why.{Why}
 use Rattle.mdb_base.specs.Names.{same_key, same_tx}
 use Rattle.mdb_base.specs.Rows.{with_row}
-use Rattle.mdb_base.proofs.NameLaws.{same_tid-refl}
-use Rattle.mdb_base.proofs.BoolLaws.{or_false}
+use Rattle.mdb_base.proofs.ForCallers.{or_false, same_tid-refl}
 use Rattle.fed_rules.specs.declared.answers.Answer.TheVariants as Say
 use Rattle.fed_rules.specs.declared.events.SiteEvent.TheVariants as Ev
 use Rattle.fed_rules.specs.declared.events.SiteStep.{SiteStep}
@@ -35,7 +34,7 @@ use Rattle.actor_store.specs.Store.{Passes, is_up}
 use Rattle.site_book.specs.declared.progress.Standing.{Standing as Book_standing}
 use Rattle.site_book.specs.declared.progress.Standing.TheVariants as Has
 use Rattle.site_book.specs.Book.{Book, begun_in, commits_local, committed_part, live_in, running_in, running_part, standing_of}
-use Rattle.site_book.proofs.Followed.{commits_well}
+use Rattle.site_book.proofs.ForCallers.{commits_well}
 use Rattle.site_core.specs.declared.site.SiteCore.{SiteCore}
 use Rattle.site_core.specs.Made.{was_global, was_found}
 use Rattle.site_core.specs.Notes.{Notes}

@@ -6,9 +6,7 @@ use Rattle.mdb_base.specs.declared.names.Tid.{Tid}
 use Rattle.mdb_base.specs.declared.names.Tx.{Tx}
 use Rattle.mdb_base.specs.Names.{same_tid}
 use Rattle.mdb_base.specs.Words.{given, map_some, some_of}
-use Rattle.mdb_base.proofs.NameLaws.{same_tid-equal, same_tid-refl, same_tid-sym, same_tx-refl}
-use Rattle.mdb_base.proofs.OptionLaws.{nothing_is}
-use Rattle.mdb_base.proofs.BoolLaws.{or_false}
+use Rattle.mdb_base.proofs.ForCallers.{nothing_is, or_false, same_tid-equal, same_tid-refl, same_tid-sym, same_tx-refl}
 use Rattle.presumptions.specs.declared.Decision.{Decision}
 use Rattle.presumptions.specs.declared.Decision.TheVariants as Decided
 use Rattle.presumptions.specs.declared.Protocol.{Protocol}
@@ -42,9 +40,9 @@ use Rattle.site_book.specs.declared.progress.Progress.TheVariants as Is
 use Rattle.site_book.specs.Book.{Book, begun_in, closed_part, closes, committed_in, enters, is_closed_in, live_in, live_part, progress_of}
 use Rattle.site_book.specs.Follows.{Follows, progress_by}
 use Rattle.site_book.specs.Laws.{ClosesBy, IsCalled}
-use Rattle.site_book.proofs.Followed.{calls_well, decides_well, get-put_tid, stays_closed}
+use Rattle.site_book.proofs.ForCallers.{calls_well, decides_well, get-put_tid, stays_closed}
 use Rattle.site_history.specs.Lines.{Agrees}
-use Rattle.site_history.proofs.Agreement.{IsKept, free_here}
+use Rattle.site_history.proofs.ForCallers.{IsKept, free_here}
 use Rattle.site_core.specs.declared.site.SiteCore.{SiteCore}
 use Rattle.site_core.specs.Made.{IsGoingOn, is_of_global, was_global, was_found}
 use Rattle.site_core.specs.Notes.{Notes, NotesPast}

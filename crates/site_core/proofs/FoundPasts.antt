@@ -13,7 +13,7 @@ use Rattle.fed_rules.specs.SitePast.{SitePast, disk}
 use Rattle.fed_rules.specs.SiteRecords.{Home, site_frame}
 use Rattle.mdb_base.specs.Words.{some_of, when}
 use Rattle.actor_store.specs.Store.{writes}
-use Rattle.actor_store.proofs.FromLaws.{writes_more}
+use Rattle.actor_store.proofs.ForCallers.{writes_more}
 use Rattle.site_core.specs.Made.{is_halt, opens, was_found}
 use Rattle.site_core.proofs.RuleWalks.{line_event}
 

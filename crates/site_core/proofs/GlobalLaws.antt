@@ -6,7 +6,7 @@ use Rattle.std.proofs.lemmas.Bool.{cond-true, cond-false}
 use Rattle.mdb_base.specs.declared.names.Tid.{Tid}
 use Rattle.mdb_base.specs.declared.names.Tx.{Tx}
 use Rattle.mdb_base.specs.Names.{same_tid}
-use Rattle.mdb_base.proofs.NameLaws.{same_tid-equal}
+use Rattle.mdb_base.proofs.ForCallers.{same_tid-equal}
 use Rattle.fed_rules.specs.declared.answers.Answer.TheVariants as Say
 use Rattle.fed_rules.specs.declared.events.SiteEvent.{SiteEvent}
 use Rattle.fed_rules.specs.declared.events.SiteEvent.TheVariants as Ev
@@ -19,7 +19,7 @@ use Rattle.fed_rules.specs.SiteRecords.{Home, site_frame}
 use Rattle.site_book.specs.declared.progress.Progress.{Progress}
 use Rattle.site_book.specs.declared.progress.Progress.TheVariants as Is
 use Rattle.site_book.specs.Book.{Book, begun_in, count_of, live_in, live_part, running_in, seals}
-use Rattle.site_book.proofs.Followed.{get-put_tid}
+use Rattle.site_book.proofs.ForCallers.{get-put_tid}
 use Rattle.site_core.specs.Made.{IsGoingOn, is_of_local, was_local}
 use Rattle.site_core.specs.Order.{IsInOrder}
 use Rattle.site_core.proofs.BegunLaws.{none_begun}

@@ -12,14 +12,13 @@ use Rattle.fed_rules.specs.SitePast as Past
 use Rattle.fed_rules.specs.SiteRecords.{Home, site_frame}
 use Rattle.fed_rules.specs.SiteSums.{journal_sum, site_sum}
 use Rattle.frame_journal.specs.Journal.{records}
-use Rattle.rules_laws.proofs.SiteRecords.{standing_all}
+use Rattle.rules_laws.proofs.ForCallers.{standing_all}
 use Rattle.site_history.specs.Sums.{AreSums}
-use Rattle.site_history.proofs.Journals.{Begins as Stands, IsSummed, IsTrimmed, standing_trimmed, sums_front}
+use Rattle.site_history.proofs.ForCallers.{Begins as Stands, IsSummed, IsTrimmed, founded, standing_trimmed, sums_front}
 use Rattle.journal_sums.specs.Journals.{Begins, IsJournal, IsJournalOf}
 use Rattle.site_core.specs.declared.site.SiteCore.{SiteCore}
 use Rattle.site_core.specs.Made.{IsGoingOn}
 use Rattle.site_core.specs.Stands.{Remembers}
-use Rattle.site_history.proofs.Founded.{founded}
 use Rattle.site_core.proofs.MadeLaws.{lawful, made_says_all}
 
 -- the journal of a past that events made

@@ -1,35 +1,36 @@
-pub mod BackLaws
-pub mod BegunLaws
-pub mod CheckLaws
-pub mod CommitLaws
-pub mod DecideLaws
-pub mod FirstLaws
-pub mod FoundPasts
-pub mod GlobalLaws
-pub mod InquiryLaws
-pub mod JournalLaws
-pub mod LineLaws
-pub mod Listings
-pub mod LocalLaws
-pub mod MadeLaws
-pub mod NamedLines
-pub mod NewStore
-pub mod NotesLaws
-pub mod OnceLaws
-pub mod OpenedDisk
-pub mod OpenedLaws
-pub mod OpenedOnce
-pub mod OperationLaws
-pub mod Outcomes
-pub mod OverLaws
-pub mod RememberLaws
-pub mod RuleWalks
-pub mod SealingLaws
-pub mod SetUpLaws
-pub mod StepLaws
-pub mod StopLaws
-pub mod SumLaws
-pub mod ToldApart
-pub mod UpLaws
-pub mod VoteLaws
-pub mod WorkLaws
+pub mod ForCallers
+mod BackLaws
+mod BegunLaws
+mod CheckLaws
+mod CommitLaws
+mod DecideLaws
+mod FirstLaws
+mod FoundPasts
+mod GlobalLaws
+mod InquiryLaws
+mod JournalLaws
+mod LineLaws
+mod Listings
+mod LocalLaws
+mod MadeLaws
+mod NamedLines
+mod NewStore
+mod NotesLaws
+mod OnceLaws
+mod OpenedDisk
+mod OpenedLaws
+mod OpenedOnce
+mod OperationLaws
+mod Outcomes
+mod OverLaws
+mod RememberLaws
+mod RuleWalks
+mod SealingLaws
+mod SetUpLaws
+mod StepLaws
+mod StopLaws
+mod SumLaws
+mod ToldApart
+mod UpLaws
+mod VoteLaws
+mod WorkLaws

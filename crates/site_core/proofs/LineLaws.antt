@@ -10,7 +10,7 @@ use Rattle.mdb_base.specs.declared.names.Tx.{Tx}
 use Rattle.mdb_base.specs.declared.replies.Why.{Why}
 use Rattle.mdb_base.specs.Names.{same_tx}
 use Rattle.mdb_base.specs.Words.{first_where, given, map_some, when}
-use Rattle.mdb_base.proofs.NameLaws.{same_tid-equal, same_tx-equal, same_tx-refl}
+use Rattle.mdb_base.proofs.ForCallers.{same_tid-equal, same_tx-equal, same_tx-refl}
 use Rattle.fed_rules.specs.declared.answers.Answer.{Answer}
 use Rattle.fed_rules.specs.declared.answers.Answer.TheVariants as Say
 use Rattle.fed_rules.specs.declared.events.SiteEvent.TheVariants as Ev
@@ -21,15 +21,14 @@ use Rattle.fed_rules.specs.Runs.{Start, EngineLine, Begins, Acts, Aborts, Refuse
 use Rattle.fed_rules.specs.Site.{act_answer, answered, next_number, of_abort, of_act, of_begin, of_check, of_commit, of_fate, refusal_answer, reply_to, seals_local, site_line, stop_of, unless_tripped, with_lines}
 use Rattle.fed_rules.specs.SitePast.{SiteHappening, SitePast, attempts_of, begins_tx, disk, engine_lines, epoch_start, live, live_of_tx, live_one, records}
 use Rattle.fed_rules.specs.SiteRecords.{Home, local_of, site_frame, start_of}
-use Rattle.engine_laws.proofs.Runs.{tid_is}
-use Rattle.run_book.proofs.Members.{Is}
-use Rattle.run_book.proofs.Unended.{is-unended, unended-is}
+use Rattle.engine_laws.proofs.ForCallers.{tid_is}
+use Rattle.run_book.proofs.ForCallers.{Is, is-unended, unended-is}
 use Rattle.site_book.specs.declared.progress.Progress.{Progress}
 use Rattle.site_book.specs.declared.progress.Progress.TheVariants as Is
 use Rattle.site_book.specs.Noted.{Noted, noted_of}
 use Rattle.site_book.specs.Book.{Book, begun_in, count_of, live_in, live_part, running_in}
 use Rattle.site_book.specs.Follows.{Follows, progress_by}
-use Rattle.commit_laws.proofs.SiteShut.{restored-sealed}
+use Rattle.commit_laws.proofs.ForCallers.{restored-sealed}
 use Rattle.site_core.specs.Made.{begins_tid, was_begun, was_global}
 use Rattle.site_core.specs.Notes.{Notes, NotesPast}
 

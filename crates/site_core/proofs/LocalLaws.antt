@@ -10,8 +10,7 @@ use Rattle.mdb_base.specs.declared.replies.Reply.{Reply}
 use Rattle.mdb_base.specs.declared.replies.Reply.TheVariants as Reply_is
 use Rattle.mdb_base.specs.Names.{same_tid, same_tx}
 use Rattle.mdb_base.specs.Words.{map_some}
-use Rattle.mdb_base.proofs.NameLaws.{same_tid-equal, same_tid-refl, same_tx-equal}
-use Rattle.mdb_base.proofs.OptionLaws.{none_left}
+use Rattle.mdb_base.proofs.ForCallers.{none_left, same_tid-equal, same_tid-refl, same_tx-equal}
 use Rattle.fed_rules.specs.declared.answers.Answer.{Answer}
 use Rattle.fed_rules.specs.declared.answers.Answer.TheVariants as Say
 use Rattle.fed_rules.specs.declared.events.SiteEvent.{SiteEvent}
@@ -30,9 +29,8 @@ use Rattle.site_book.specs.Noted.{Noted, noted_of}
 use Rattle.site_book.specs.Book.{Book, begins_local, begun_in, changed_in, closes, committed_in, count_of, live_in, live_part, notes_reply, on_live, progress_of, replied, running_in, standing_of}
 use Rattle.site_book.specs.Follows.{Follows, progress_by}
 use Rattle.site_core.specs.Order.{IsInOrder}
-use Rattle.site_book.proofs.Followed.{calls_well, get-changed_tid}
+use Rattle.site_book.proofs.ForCallers.{calls_well, get-changed_tid, get-put_tx}
 use Rattle.site_history.specs.Lines.{Agrees}
-use Rattle.site_book.proofs.Ordered.{get-put_tx}
 use Rattle.site_core.specs.declared.site.SiteCore.{SiteCore}
 use Rattle.site_core.specs.Made.{IsGoingOn, was_begun, was_global}
 use Rattle.site_core.specs.Notes.{Notes, NotesPast}

@@ -4,8 +4,7 @@ use Rattle.std.proofs.Common.{◌≡◌, ◌⊎◌, ℕ, Bool, true, false, None
 use Rattle.std.proofs.lemmas.Bool.{or_right, or_left, or_from, or_cases}
 use Rattle.mdb_base.specs.declared.names.Tid.{Tid}
 use Rattle.mdb_base.specs.declared.names.Tx.{Tx}
-use Rattle.mdb_base.proofs.NameLaws.{same_tx-equal, same_tx-refl}
-use Rattle.mdb_base.proofs.BoolLaws.{not_both}
+use Rattle.mdb_base.proofs.ForCallers.{not_both, same_tx-equal, same_tx-refl}
 use Rattle.fed_rules.specs.declared.events.SiteEvent.{SiteEvent}
 use Rattle.fed_rules.specs.declared.events.SiteEvent.TheVariants as Ev
 use Rattle.fed_rules.specs.declared.messages.ToSite.TheVariants as To
@@ -20,14 +19,7 @@ use Rattle.site_history.specs.Lines.{HasRightLines}
 use Rattle.site_history.specs.SiteOrders.{HasGoodStarts, OfSortedPasts}
 use Rattle.site_history.specs.Sums.{JournalSaysAll}
 use Rattle.site_history.specs.Tables.{HasItsTable}
-use Rattle.site_history.proofs.EngineRows.{TabledPast, tabled_first, tabled_on, tabled_opened}
-use Rattle.site_history.proofs.Histories.{no_local_doubt}
-use Rattle.site_history.proofs.InOrderPasts.{OrdersPast, orders_on, orders_past}
-use Rattle.site_history.proofs.OpenedSites.{reopened}
-use Rattle.site_history.proofs.OpenedSums.{all_sums}
-use Rattle.site_history.proofs.RightLines.{right_of_kept}
-use Rattle.site_history.proofs.SummedPasts.{SummedPast, pasts_summed, says_all_on, summed_on}
-use Rattle.site_history.proofs.WellKept.{IsWellKept, good_starts_on, well_first, well_on}
+use Rattle.site_history.proofs.ForCallers.{IsWellKept, OrdersPast, SummedPast, TabledPast, all_sums, good_starts_on, no_local_doubt, orders_on, orders_past, pasts_summed, reopened, right_of_kept, says_all_on, summed_on, tabled_first, tabled_on, tabled_opened, well_first, well_on}
 use Rattle.site_core.specs.Made.{IsApart, IsGoingOn, IsMade, IsOpened, about, is_of_global, is_of_local, was_global, was_local}
 use Rattle.site_core.proofs.OpenedOnce.{named_apart}
 use Rattle.site_core.proofs.RuleWalks.{line_event}

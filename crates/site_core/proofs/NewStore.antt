@@ -9,9 +9,9 @@ use Rattle.fed_rules.specs.SiteRecords.{site_frame}
 use Rattle.journal_disk.specs.Disk.{Image, Seen, IsSound}
 use Rattle.frame_journal.specs.Journal.{new_journal}
 use Rattle.frame_journal.specs.Records.{AreRecordsOf}
-use Rattle.frame_journal.proofs.Keeping.{new_is_kept, none_is_part}
+use Rattle.frame_journal.proofs.ForCallers.{new_is_kept, none_is_part}
 use Rattle.journal_rules.specs.Stands.{StandsFor, record_frame}
-use Rattle.journal_rules.proofs.Keeps.{journal_stands}
+use Rattle.journal_rules.proofs.ForCallers.{journal_stands}
 use Rattle.site_journal.specs.Exact.{spelled_is_read}
 use Rattle.site_journal.specs.Frames.{frame_has_size}
 use Rattle.site_journal.specs.Spelling.{spelling, reading, IsRecord}
@@ -19,8 +19,7 @@ use Rattle.actor_store.specs.declared.store.Break.TheVariants.{Failed, Stopped}
 use Rattle.actor_store.specs.declared.store.Standing.TheVariants.{Up}
 use Rattle.actor_store.specs.Store as actor
 use Rattle.actor_store.specs.Store.{HoldsBytes, taken_as}
-use Rattle.actor_store.proofs.FromLaws.{all_written, from_none}
-use Rattle.actor_store.proofs.StoreLaws.{sizes, taken_bytes, torn_bytes}
+use Rattle.actor_store.proofs.ForCallers.{all_written, from_none, sizes, taken_bytes, torn_bytes}
 use Rattle.site_core.specs.Store.{Store, Keeps, SomeStop, Ends, stopped_disk}
 
 -- the empty disk of the rules, beside one that holds no byte

@@ -6,8 +6,7 @@ use Rattle.std.proofs.lemmas.Bool.{cond-true, cond-false, and_parts}
 use Rattle.mdb_base.specs.declared.names.Tid.{Tid}
 use Rattle.mdb_base.specs.declared.names.Tx.{Tx}
 use Rattle.mdb_base.specs.Names.{same_tid, same_tx, tid_cmp, tx_cmp}
-use Rattle.mdb_base.proofs.NameLaws.{same_tid-equal, same_tid-refl, same_tid-sym, same_tx-equal, same_tx-refl}
-use Rattle.mdb_base.proofs.BoolLaws.{not_both as differ}
+use Rattle.mdb_base.proofs.ForCallers.{not_both as differ, same_tid-equal, same_tid-refl, same_tid-sym, same_tx-equal, same_tx-refl}
 use Rattle.fed_rules.specs.Runs.{Start, EngineLine, Begins, Acts, Takes, Seals, Refuses, Commits, Aborts, Run, gives_up, run_at, tid_of}
 use Rattle.fed_rules.specs.SitePast.{SiteHappening, SitePast, ends, live_one}
 use Rattle.site_book.specs.declared.progress.Progress.{Progress}
@@ -18,9 +17,7 @@ use Rattle.site_book.specs.Noted.{fresh}
 use Rattle.site_book.specs.Book.{Book, Counts, Standings, begins_local, closes, committed_in, committed_part, commits_local, counted, count_of, live_in, live_part, not_running, progress_of, restarted, running_in, running_part, runs, standing_of}
 use Rattle.site_book.specs.Follows.{Follows, progress_by}
 use Rattle.site_core.specs.Order.{IsInOrder}
-use Rattle.site_book.proofs.Followed.{get-put_tid}
-use Rattle.site_book.proofs.Ordered.{get-put_tx, get-gone_tx}
-use Rattle.site_book.proofs.InOrder.{none_running-committed, no_live-doubtful}
+use Rattle.site_book.proofs.ForCallers.{get-gone_tx, get-put_tid, get-put_tx, no_live-doubtful, none_running-committed}
 use Rattle.site_core.specs.Made.{begins_tid, is_of_global, was_begun, was_global}
 use Rattle.site_core.specs.Notes.{Notes}
 

@@ -8,7 +8,7 @@ use Rattle.std.proofs.lemmas.List.{append-nil, append_assoc, reverse-reverse}
 use Rattle.mdb_base.specs.declared.names.Tid.{Tid}
 use Rattle.mdb_base.specs.Rising.{IsRising}
 use Rattle.mdb_base.specs.Words.{Each}
-use Rattle.mdb_base.proofs.JoinLaws.{reverse_more}
+use Rattle.mdb_base.proofs.ForCallers.{reverse_more}
 use Rattle.fed_rules.specs.declared.records.SiteRecord.{SiteRecord}
 use Rattle.fed_rules.specs.declared.records.SiteRecord.TheVariants as Rec
 use Rattle.fed_rules.specs.declared.sums.SiteSum.{SiteSum}
@@ -23,11 +23,9 @@ use Rattle.fed_rules.specs.SitePast.{SitePast}
 use Rattle.fed_rules.specs.SiteRecords.{Held, Home, doubtful_size, site_frame, site_payload}
 use Rattle.fed_rules.specs.SiteSums.{carried}
 use Rattle.fed_rules.specs.Usable.{IsUsableSite, home_of_first}
-use Rattle.rules_laws.proofs.OpenedDisks.{opened_journal}
-use Rattle.site_history.proofs.OpenedPasts.{opened_is}
+use Rattle.rules_laws.proofs.ForCallers.{opened_journal}
+use Rattle.site_history.proofs.ForCallers.{below, beside, disk_is, foundation, in_parts, opened_is, torn_short}
 use Rattle.site_history.specs.FoundSites.{WritesRise}
-use Rattle.site_history.proofs.OpenedSites.{disk_is, torn_short}
-use Rattle.site_history.proofs.ReadSums.{below, beside, foundation, in_parts}
 use Rattle.journal_disk.specs.Disk.{Image, Seen}
 use Rattle.journal_disk.specs.Frames.{IsFrame, IsPayload}
 use Rattle.field_bytes.specs.Fields.{IsTid}
@@ -36,7 +34,7 @@ use Rattle.record_fields.specs.Sums.{MaybeFits, a_doubtful}
 use Rattle.frame_journal.specs.Journal.{records}
 use Rattle.frame_journal.specs.Records.{entry_frame, spelled_size}
 use Rattle.journal_rules.specs.Stands.{record_frame}
-use Rattle.journal_rules.proofs.Journals.{all_reverse}
+use Rattle.journal_rules.proofs.ForCallers.{all_reverse}
 use Rattle.site_journal.specs.Exact.{spelled_is_read}
 use Rattle.site_journal.specs.Frames.{frame_has_size}
 use Rattle.site_journal.specs.PayloadSizes.{payload_has_size}
@@ -45,7 +43,7 @@ use Rattle.actor_store.specs.declared.store.Standing.{Standing}
 use Rattle.actor_store.specs.declared.store.Standing.TheVariants.{Down}
 use Rattle.actor_store.specs.Found.{IsFoundIn}
 use Rattle.actor_store.specs.Store.{IsFoundBehind, Old, is_up, stored}
-use Rattle.actor_store.proofs.FoundLaws.{found_in, left_in, whole_respelled}
+use Rattle.actor_store.proofs.ForCallers.{found_in, left_in, whole_respelled}
 use Rattle.site_book.specs.Book.{Book, begun_in, blank, count_of}
 use Rattle.mdb_base.specs.Names.{tx_cmp}
 use Rattle.site_core.specs.declared.site.SiteCore.{SiteCore}

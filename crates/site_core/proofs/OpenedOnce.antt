@@ -14,13 +14,11 @@ use Rattle.fed_rules.specs.SiteRecords.{Held, Home, local_of}
 use Rattle.fed_rules.specs.SiteSums.{carried, locals_with}
 use Rattle.fed_rules.specs.Usable.{AreParted, IsGlobalOf, IsLocalOf, OnceEach, counted}
 use Rattle.site_history.specs.Sums.{AreSums}
-use Rattle.site_history.proofs.OpenedSums.{all_read, counted_more}
-use Rattle.site_history.proofs.UsableSites.{locals_from}
-use Rattle.site_history.proofs.ReadSums.{below, beside, foundation, in_parts}
+use Rattle.site_history.proofs.ForCallers.{all_read, below, beside, counted_more, foundation, in_parts, locals_from}
 use Rattle.site_core.specs.Made.{is_of_global, is_of_local, was_global, was_local}
 use Rattle.site_core.specs.Recovered.{LocalsOnce}
 use Rattle.site_core.proofs.ToldApart.{came_append}
-use Rattle.mdb_base.proofs.NameLaws.{same_tx-equal}
+use Rattle.mdb_base.proofs.ForCallers.{same_tx-equal}
 
 -- ---- the Local records
 

@@ -10,7 +10,7 @@ use Rattle.mdb_base.specs.declared.replies.Reply.{Reply}
 use Rattle.mdb_base.specs.declared.replies.Reply.TheVariants as Reply_is
 use Rattle.mdb_base.specs.Names.{same_tid}
 use Rattle.mdb_base.specs.Words.{given, map_some, or_else, when}
-use Rattle.mdb_base.proofs.NameLaws.{same_tid-equal, same_tid-refl}
+use Rattle.mdb_base.proofs.ForCallers.{same_tid-equal, same_tid-refl}
 use Rattle.presumptions.specs.declared.Decision.{Decision}
 use Rattle.fed_rules.specs.declared.answers.Answer.TheVariants as Say
 use Rattle.fed_rules.specs.declared.events.SiteEvent.TheVariants as Ev
@@ -27,14 +27,14 @@ use Rattle.fed_rules.specs.Site.{answered, did, is_of_epoch, is_over, kept_reply
 use Rattle.fed_rules.specs.Site as Site
 use Rattle.fed_rules.specs.SitePast.{SiteHappening, SitePast, decides_on, ends, engine_lines, epoch, epoch_start, is_closed, live, live_one, records}
 use Rattle.fed_rules.specs.SiteRecords.{Home, local_of}
-use Rattle.commit_laws.proofs.SiteFacts.{Shut}
+use Rattle.commit_laws.proofs.ForCallers.{Shut}
 use Rattle.actor_store.specs.declared.store.Standing.TheVariants.{Up}
 use Rattle.site_book.specs.declared.progress.Progress.{Progress}
 use Rattle.site_book.specs.declared.progress.Progress.TheVariants as Is
 use Rattle.site_book.specs.Noted.{Noted, done_in, noted_of}
 use Rattle.site_book.specs.Book.{Book, begun_in, changed_in, committed_in, live_in, live_part, notes_take, on_live, progress_of, taken}
 use Rattle.site_core.specs.Order.{IsInOrder}
-use Rattle.site_book.proofs.Followed.{calls_well, get-changed_tid}
+use Rattle.site_book.proofs.ForCallers.{calls_well, get-changed_tid}
 use Rattle.site_core.specs.declared.site.SiteCore.{SiteCore}
 use Rattle.site_core.specs.Notes.{Notes, NotesPast}
 use Rattle.site_core.specs.Operations.{replied_again, taken_again}

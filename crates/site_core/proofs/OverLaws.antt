@@ -12,15 +12,11 @@ use Rattle.fed_rules.specs.Runs.{run_at}
 use Rattle.fed_rules.specs.SitePast.{SiteHappening, SitePast, disk, live_one, records, set_up_calls}
 use Rattle.fed_rules.specs.SiteRecords.{Held, Home, doubt_of, site_frame, start_of}
 use Rattle.rules_laws.specs.Durable.{IsFirm, IsSound}
-use Rattle.rules_laws.proofs.Disks.{firm_quiet}
-use Rattle.rules_laws.proofs.Durable.{firm_stop, sound_calls}
-use Rattle.site_history.proofs.OpenedPasts.{named_writes}
-use Rattle.site_history.proofs.Starts.{restored_doubt, restored_held}
+use Rattle.rules_laws.proofs.ForCallers.{calls_split, firm_quiet, firm_stop, sound_calls}
+use Rattle.site_history.proofs.ForCallers.{named_writes, restored_doubt, restored_held}
 use Rattle.commit_laws.specs.Records.{IsLooseEnded}
-use Rattle.commit_laws.proofs.SiteFacts.{NotBegun, Shut}
-use Rattle.commit_laws.proofs.SiteLines.{site-lines}
+use Rattle.commit_laws.proofs.ForCallers.{NotBegun, Shut, site-lines}
 use Rattle.site_core.specs.Made.{IsGoingOn, IsOpened, is_of_local, was_local}
-use Rattle.rules_laws.proofs.OpenedDisks.{calls_split}
 
 -- an event that is of no local attempt of its transaction doesn't begin an attempt
 not_begun : (tid : Tid) (event : SiteEvent) → is_of_local tid.tx event ≡ false → NotBegun tid event

@@ -21,8 +21,7 @@ use Rattle.frame_journal.specs.Journal.{records}
 use Rattle.actor_store.specs.declared.store.Standing.{Standing}
 use Rattle.actor_store.specs.declared.store.Standing.TheVariants.{Up, Down, Failing}
 use Rattle.actor_store.specs.Store.{Passes, is_up, trip_of_rules}
-use Rattle.actor_store.proofs.EndsLaws.{passes_none, used_none}
-use Rattle.actor_store.proofs.FromLaws.{from_later, from_trip}
+use Rattle.actor_store.proofs.ForCallers.{from_later, from_trip, passes_none, used_none}
 use Rattle.site_book.specs.Book.{begun_in}
 use Rattle.site_core.specs.declared.site.SiteCore.{SiteCore}
 use Rattle.site_core.specs.Stands.{Adds, Answers, Carries, IsIn, IsOfKind, IsStopped, IsUp, Remembers, Stands}

@@ -22,7 +22,7 @@ use Rattle.actor_store.specs.declared.store.Standing.{Standing}
 use Rattle.actor_store.specs.declared.store.Standing.TheVariants.{Up}
 use Rattle.actor_store.specs.Store.{is_up}
 use Rattle.site_book.specs.Book.{begun_in}
-use Rattle.site_history.proofs.Agreement.{live_is}
+use Rattle.site_history.proofs.ForCallers.{live_is}
 use Rattle.site_core.specs.declared.site.SiteCore.{SiteCore}
 use Rattle.site_core.specs.Sealing.{StandsSealing}
 use Rattle.site_core.specs.Stands.{Answers, Breaks, Carries, IsIn, IsOfKind, IsUp}

@@ -26,9 +26,8 @@ use Rattle.actor_store.specs.declared.store.SetTrip.{SetTrip}
 use Rattle.actor_store.specs.declared.store.Standing.{Standing}
 use Rattle.actor_store.specs.declared.store.Standing.TheVariants.{Up, Down, Failing}
 use Rattle.actor_store.specs.Store.{IsArmed, StopsWith, is_up, trip_of_rules, trip_to}
-use Rattle.actor_store.proofs.EndsLaws.{used_none}
+use Rattle.actor_store.proofs.ForCallers.{from_later, from_trip, trip_to-armed, trip_to-rules, used_none}
 use Rattle.site_book.specs.Book.{begun_in}
-use Rattle.actor_store.proofs.FromLaws.{from_later, from_trip}
 use Rattle.site_core.specs.declared.site.SiteCore.{SiteCore}
 use Rattle.site_core.specs.Stands.{Answers, Before, Breaks, Carries, IsIn, IsOfKind, IsStopped, IsUp, Stands, StopAt, Within, stopped_past}
 use Rattle.site_core.specs.Recovered.{LocalsOnce}
@@ -37,9 +36,8 @@ use Rattle.site_core.specs.Store.{Ends, Keeps, Store}
 use Rattle.site_core.proofs.NotesLaws.{notes_same}
 use Rattle.site_core.proofs.OnceLaws.{AppendsOnce, once_stopped}
 use Rattle.site_core.proofs.UpLaws.{closed_same}
-use Rattle.rules_laws.proofs.Durable.{none_lost}
-use Rattle.site_history.proofs.Founded.{whole-all}
-use Rattle.actor_store.proofs.TripLaws.{trip_to-rules, trip_to-armed}
+use Rattle.rules_laws.proofs.ForCallers.{none_lost}
+use Rattle.site_history.proofs.ForCallers.{whole-all}
 use Rattle.site_core.proofs.RememberLaws.{answers_as, carries_stop, down_is, kept_records, kind_at, stop_line, trips_is, up_is}
 
 -- the line of a trip that is set

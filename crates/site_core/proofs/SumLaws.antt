@@ -10,7 +10,7 @@ use Rattle.mdb_base.specs.declared.names.Tx.{Tx}
 use Rattle.mdb_base.specs.Names.{same_tid, same_tx, tid_before, tx_cmp}
 use Rattle.mdb_base.specs.Rising.{IsRising}
 use Rattle.mdb_base.specs.Words.{Each, first_where, found, inserted, map_some, or_else}
-use Rattle.mdb_base.proofs.NameLaws.{same_tid-equal, same_tid-sym}
+use Rattle.mdb_base.proofs.ForCallers.{same_tid-equal, same_tid-sym}
 use Rattle.fed_rules.specs.declared.records.SiteRecord.{SiteRecord}
 use Rattle.fed_rules.specs.declared.records.SiteRecord.TheVariants as Rec
 use Rattle.fed_rules.specs.declared.runs.Doubt.{Doubt}
@@ -24,17 +24,15 @@ use Rattle.record_fields.specs.Named.{IsSite}
 use Rattle.record_fields.specs.Sums.{MaybeFits, tid_number}
 use Rattle.site_journal.specs.Spelling.{IsRecord, IsSumInRange}
 use Rattle.engine_laws.specs.Laws.{EachOnce}
-use Rattle.site_history.proofs.Restarts.{each_by_tid, each_found_from, once_doubts, each_held}
-use Rattle.site_history.proofs.Starts.{restored_doubt}
+use Rattle.site_history.proofs.ForCallers.{IsFounded, each_by_tid, each_found_from, each_held, foundation, once_doubts, restored_doubt}
 use Rattle.prepared_state.specs.Book.{doubt_about}
 use Rattle.record_fields.specs.AttemptOrder.{before-less}
 use Rattle.journal_sums.specs.Starts.{doubt_held}
 use Rattle.site_book.specs.declared.progress.Standing.{Standing}
 use Rattle.site_book.specs.declared.progress.Standing.TheVariants as Has
 use Rattle.site_book.specs.Book.{Standings, committed_part, with_committed}
-use Rattle.site_history.proofs.Founded.{IsFounded, foundation}
-use Rattle.site_book.proofs.Ordered.{get-put_tx}
-use Rattle.journal_sums.proofs.DoubtLaws.{are_doubts}
+use Rattle.site_book.proofs.ForCallers.{get-put_tx}
+use Rattle.journal_sums.proofs.ForCallers.{are_doubts}
 use Rattle.site_core.specs.Recovered.{LocalsOnce, held_tid}
 
 -- the attempts rise by their transactions

@@ -5,8 +5,7 @@ use Rattle.mdb_base.specs.declared.names.Tid.{Tid}
 use Rattle.mdb_base.specs.declared.names.Tx.{Tx}
 use Rattle.mdb_base.specs.Names.{same_tx}
 use Rattle.mdb_base.specs.Words.{Each, some_of}
-use Rattle.mdb_base.proofs.NameLaws.{same_tx-refl}
-use Rattle.mdb_base.proofs.TestLaws.{or_assoc}
+use Rattle.mdb_base.proofs.ForCallers.{or_assoc, same_tx-refl}
 use Rattle.fed_rules.specs.declared.events.SiteEvent.{SiteEvent}
 use Rattle.fed_rules.specs.declared.records.SiteRecord.{SiteRecord}
 use Rattle.fed_rules.specs.declared.records.SiteRecord.TheVariants as Rec

@@ -13,8 +13,7 @@ use Rattle.mdb_base.specs.declared.replies.Why.{Why}
 use Rattle.mdb_base.specs.declared.replies.Why.TheVariants as Because
 use Rattle.mdb_base.specs.Names.{same_tid, same_tx}
 use Rattle.mdb_base.specs.Words.{map_some, some_of}
-use Rattle.mdb_base.proofs.NameLaws.{same_tid-equal, same_tid-refl}
-use Rattle.mdb_base.proofs.BoolLaws.{or_false}
+use Rattle.mdb_base.proofs.ForCallers.{or_false, same_tid-equal, same_tid-refl}
 use Rattle.fed_rules.specs.declared.answers.Answer.{Answer}
 use Rattle.fed_rules.specs.declared.answers.Answer.TheVariants as Say
 use Rattle.fed_rules.specs.declared.events.SiteEvent.{SiteEvent}
@@ -35,7 +34,7 @@ use Rattle.site_book.specs.Noted.{noted_of}
 use Rattle.site_book.specs.Book.{Book, begins_local, begun_in, closes, committed_in, count_of, counted, live_in, notes_reply, progress_of, standing_of}
 use Rattle.site_book.specs.Follows.{Follows}
 use Rattle.site_core.specs.Order.{IsInOrder}
-use Rattle.site_book.proofs.Followed.{calls_well}
+use Rattle.site_book.proofs.ForCallers.{calls_well}
 use Rattle.site_core.specs.declared.site.SiteCore.{SiteCore}
 use Rattle.site_core.specs.Made.{is_of_global, was_begun, was_global}
 use Rattle.site_core.specs.Notes.{Notes, NotesPast}

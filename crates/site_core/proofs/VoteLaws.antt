@@ -8,7 +8,7 @@ use Rattle.mdb_base.specs.declared.rows.Put.{Put}
 use Rattle.mdb_base.specs.declared.replies.Why.{Why}
 use Rattle.mdb_base.specs.Names.{same_tid}
 use Rattle.mdb_base.specs.Words.{given, inserted, map_some, when}
-use Rattle.mdb_base.proofs.NameLaws.{same_tid-refl}
+use Rattle.mdb_base.proofs.ForCallers.{same_tid-refl}
 use Rattle.fed_rules.specs.declared.answers.Answer.TheVariants as Say
 use Rattle.fed_rules.specs.declared.events.SiteEvent.TheVariants as Ev
 use Rattle.fed_rules.specs.declared.events.SiteStep.{SiteStep}
@@ -32,7 +32,7 @@ use Rattle.journal_disk.specs.Frames.{IsPayload}
 use Rattle.journal_sums.specs.Starts.{doubt_held}
 use Rattle.prepared_state.specs.Book.{doubt_about, stands_before}
 use Rattle.prepared_state.specs.Book as Doubts
-use Rattle.prepared_state.proofs.OneMore.{doubt_about-inserted}
+use Rattle.prepared_state.proofs.ForCallers.{doubt_about-inserted}
 use Rattle.site_journal.specs.Spelling.{spelling}
 use Rattle.engine_contract.specs.Calls.{SealsRun}
 use Rattle.actor_store.specs.declared.errors.StepErr.TheVariants as Err_is
@@ -43,8 +43,8 @@ use Rattle.actor_store.specs.Store.{Passes, is_up}
 use Rattle.site_book.specs.declared.progress.Progress.{Progress}
 use Rattle.site_book.specs.Noted.{Noted, noted_of}
 use Rattle.site_book.specs.Book.{Book, begun_in, closes, live_in, live_part, progress_of, seals}
-use Rattle.site_book.proofs.Followed.{calls_well}
-use Rattle.site_history.proofs.Agreement.{live_is}
+use Rattle.site_book.proofs.ForCallers.{calls_well}
+use Rattle.site_history.proofs.ForCallers.{live_is}
 use Rattle.site_core.specs.declared.site.SiteCore.{SiteCore}
 use Rattle.site_core.specs.Made.{was_local, was_found}
 use Rattle.site_core.specs.Notes.{Notes, NotesPast}

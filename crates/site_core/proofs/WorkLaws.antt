@@ -10,8 +10,7 @@ use Rattle.mdb_base.specs.declared.replies.Reply.{Reply}
 use Rattle.mdb_base.specs.declared.replies.Reply.TheVariants as Reply_is
 use Rattle.mdb_base.specs.Names.{same_tid}
 use Rattle.mdb_base.specs.Words.{given, map_some, when}
-use Rattle.mdb_base.proofs.NameLaws.{same_tid-equal, same_tid-refl, same_tx-refl}
-use Rattle.mdb_base.proofs.BoolLaws.{or_false}
+use Rattle.mdb_base.proofs.ForCallers.{or_false, same_tid-equal, same_tid-refl, same_tx-refl}
 use Rattle.fed_rules.specs.declared.answers.Answer.TheVariants as Say
 use Rattle.fed_rules.specs.declared.events.SiteStep.{SiteStep}
 use Rattle.fed_rules.specs.declared.messages.FromSite.TheVariants as From
@@ -24,7 +23,7 @@ use Rattle.fed_rules.specs.Site.{did, first_work, is_of_epoch, is_over, next_num
 use Rattle.fed_rules.specs.Site as Site
 use Rattle.fed_rules.specs.SitePast.{SiteHappening, SitePast, ends, engine_lines, epoch, epoch_start, is_closed, live, live_one, records}
 use Rattle.fed_rules.specs.SiteRecords.{Held, Home, doubt_of, local_of}
-use Rattle.commit_laws.proofs.SiteFacts.{Shut}
+use Rattle.commit_laws.proofs.ForCallers.{Shut}
 use Rattle.site_history.specs.Lines.{Agrees}
 use Rattle.actor_store.specs.declared.store.Standing.TheVariants.{Up}
 use Rattle.site_book.specs.declared.progress.Progress.{Progress}
@@ -32,7 +31,7 @@ use Rattle.site_book.specs.declared.progress.Progress.TheVariants as Is
 use Rattle.site_book.specs.Noted.{fresh, noted_of}
 use Rattle.site_book.specs.Book.{Book, begins_global, begun_in, committed_in, count_of, live_in, live_part, notes_reply, progress_of, running_in}
 use Rattle.site_book.specs.Follows.{Follows, progress_by}
-use Rattle.site_book.proofs.Followed.{calls_well, get-put_tid}
+use Rattle.site_book.proofs.ForCallers.{calls_well, get-put_tid}
 use Rattle.site_core.specs.declared.site.SiteCore.{SiteCore}
 use Rattle.site_core.specs.Made.{IsGoingOn, was_global, was_local}
 use Rattle.site_core.specs.Notes.{Notes, NotesPast}

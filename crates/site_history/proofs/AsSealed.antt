@@ -4,14 +4,14 @@ use Rattle.std.specs.Prelude.{nat_lt}
 use Rattle.mdb_base.specs.declared.names.Tid.{Tid}
 use Rattle.mdb_base.specs.Names.{same_tid}
 use Rattle.mdb_base.specs.Words.{those, inserted}
-use Rattle.mdb_base.proofs.NameLaws.{same_tid-equal}
+use Rattle.mdb_base.proofs.ForCallers.{same_tid-equal}
 use Rattle.order_laws.specs.Chains.{In}
-use Rattle.order_laws.proofs.InLaws.{in_inserted, in_append, append_in, those-in, in_map as map_in}
+use Rattle.order_laws.proofs.ForCallers.{append_in, in_append, in_inserted, in_map as map_in, those-in}
 use Rattle.fed_rules.specs.EngineLines.{IsRight}
 use Rattle.fed_rules.specs.Runs.{Start, EngineLine, Run, run_at, number, committed, by_number}
 use Rattle.engine_laws.specs.Epochs.{Epoch, AreEpochs, all_committed, new_runs, restored_tids}
 use Rattle.engine_laws.specs.Laws.{with_commits}
-use Rattle.engine_laws.proofs.Runs.{tid_is}
+use Rattle.engine_laws.proofs.ForCallers.{tid_is}
 
 -- the run, or where it was restored the one that it was before
 abbrev pub as_was : Start → Option Run → Option Run → Option Run

@@ -3,10 +3,10 @@ use Rattle.std.proofs.Common.{◌≡◌, ℕ, ◌≤◌, ◌⊎◌, max, Bool, t
 use Rattle.mdb_base.specs.declared.names.Tid.{Tid}
 use Rattle.mdb_base.specs.Names.{same_tid}
 use Rattle.mdb_base.specs.Words.{or_else}
-use Rattle.mdb_base.proofs.NameLaws.{same_tid-equal}
+use Rattle.mdb_base.proofs.ForCallers.{same_tid-equal}
 use Rattle.order_laws.specs.Chains.{In}
 use Rattle.presumptions.specs.declared.Decision.TheVariants as Decided
-use Rattle.order_laws.proofs.InLaws.{in_inserted}
+use Rattle.order_laws.proofs.ForCallers.{in_inserted}
 use Rattle.fed_rules.specs.declared.records.SiteRecord.{SiteRecord}
 use Rattle.fed_rules.specs.declared.records.SiteRecord.TheVariants.{Prepared, Ended, Local}
 use Rattle.fed_rules.specs.EngineLines.{IsRight, IsLive}
@@ -14,7 +14,7 @@ use Rattle.fed_rules.specs.Runs as Runs
 use Rattle.fed_rules.specs.Runs.{EngineLine, Seals, Commits, Aborts, Access, Run, committed, number, published, puts_of, run_at, ticket_of, tid_of}
 use Rattle.fed_rules.specs.SiteRecords.{Home, Held, Install, doubt_of, install_held, installs, last_ticket}
 use Rattle.engine_laws.specs.Epochs.{Epoch}
-use Rattle.engine_laws.proofs.Runs.{tid_is}
+use Rattle.engine_laws.proofs.ForCallers.{tid_is}
 use Rattle.site_history.specs.Lines.{Agrees}
 use Rattle.site_history.proofs.AsSealed.{as_sealed, inserted_in, WasCommitted}
 use Rattle.site_history.proofs.Backing.{IsBacked, IsHeldRun, IsInstalledRun, IsKeptRun, beside_doubt, epochs_lines, first_lines, run_beside_line, sealed_now}

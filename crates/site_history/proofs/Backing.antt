@@ -2,7 +2,7 @@
 use Rattle.std.proofs.Common.{◌≡◌, ℕ, ◌<◌, ◌≤◌, Bool, true, false, cond, Some, None, List, [], ◌∷◌, refl, sym, ap, ◌∙◌, subst, inl, inr, arith, lt-ltb}
 use Rattle.mdb_base.specs.declared.names.Tid.{Tid}
 use Rattle.mdb_base.specs.Names.{same_tid}
-use Rattle.mdb_base.proofs.NameLaws.{same_tid-equal, same_tid-refl}
+use Rattle.mdb_base.proofs.ForCallers.{same_tid-equal, same_tid-refl}
 use Rattle.order_laws.specs.Chains.{In}
 use Rattle.fed_rules.specs.declared.records.SiteRecord.{SiteRecord}
 use Rattle.fed_rules.specs.declared.records.SiteRecord.TheVariants.{Setup, Start, Prepared, Ended, Local, Checkpoint}
@@ -11,7 +11,7 @@ use Rattle.fed_rules.specs.Runs as Runs
 use Rattle.fed_rules.specs.Runs.{EngineLine, Seals, Access, Run, committed, number, published, puts_of, run_at, tid_of, changed}
 use Rattle.fed_rules.specs.SiteRecords.{Home, Held, Install, doubt_of, installs, last_number, last_ticket}
 use Rattle.engine_laws.specs.Epochs.{Epoch, AreEpochs, first_rows}
-use Rattle.engine_laws.proofs.Origins.{IsFrom, IsNew, origins}
+use Rattle.engine_laws.proofs.ForCallers.{IsFrom, IsNew, origins}
 use Rattle.site_history.specs.Lines.{Agrees}
 use Rattle.site_history.specs.Records.{Binds, IsBound}
 use Rattle.site_history.proofs.AsSealed.{as_sealed, as_was, WasCommitted}

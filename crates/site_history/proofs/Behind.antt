@@ -1,5 +1,5 @@
 -- What newer records say behind older ones, and behind a Checkpoint of these.
-use Rattle.rules_laws.proofs.Doubts.{carried_none}
+use Rattle.rules_laws.proofs.ForCallers.{carried_none, in_each}
 use Rattle.site_history.proofs.Restarts.{each_by_tid}
 use Rattle.std.proofs.Common.{◌≡◌, ℕ, ◌⊎◌, max, Bool, true, false, cond, Option, Some, None, List, [], ◌∷◌, ◌++◌, refl, sym, ap, ap₂, ◌∙◌, subst, inl, inr, arith, ltb-true, ltb-false, lt-ltb, le-ltb}
 use Rattle.std.specs.Prelude.{nat_lt}
@@ -8,8 +8,7 @@ use Rattle.mdb_base.specs.declared.rows.Put.{Put}
 use Rattle.mdb_base.specs.Names.{same_tid, tid_before}
 use Rattle.mdb_base.specs.Rows.{with_rows}
 use Rattle.mdb_base.specs.Words.{Each, Among, found, with_some, inserted}
-use Rattle.mdb_base.proofs.ListLaws.{each_inserted}
-use Rattle.mdb_base.proofs.NameLaws.{same_tid-equal, same_tid-refl}
+use Rattle.mdb_base.proofs.ForCallers.{each_inserted, same_tid-equal, same_tid-refl}
 use Rattle.presumptions.specs.declared.Decision.TheVariants as Decided
 use Rattle.fed_rules.specs.declared.records.SiteRecord.{SiteRecord}
 use Rattle.fed_rules.specs.declared.records.SiteRecord.TheVariants.{Setup, Start, Prepared, Ended, Local, Checkpoint}
@@ -19,7 +18,6 @@ use Rattle.site_history.proofs.Starts.{doubt_tid, doubt_among}
 use Rattle.site_history.specs.Sums.{StaysBelow, HeldComes, ComeInOrder}
 use Rattle.site_history.proofs.RowsOnTop.{rows_on_top}
 use Rattle.fed_rules.specs.Attempts.{each_attempt}
-use Rattle.rules_laws.proofs.EachAttempt.{in_each}
 
 pub epoch_behind : (e : ℕ) (newer older : List SiteRecord) → epoch_with (epoch_with e older) newer ≡ epoch_with e (newer ++ older)
 epoch_behind e [] older = refl

@@ -9,7 +9,7 @@ use Rattle.mdb_base.specs.declared.names.Tx.{Tx}
 use Rattle.mdb_base.specs.declared.replies.Reply.{Reply}
 use Rattle.mdb_base.specs.Names.{same_site, same_tid, same_tx}
 use Rattle.mdb_base.specs.Words.{how_many, some_of, those, with_some}
-use Rattle.mdb_base.proofs.NameLaws.{same_tid-equal, same_tx-refl}
+use Rattle.mdb_base.proofs.ForCallers.{same_tid-equal, same_tx-refl}
 use Rattle.fed_rules.specs.declared.answers.Answer.{Answer}
 use Rattle.fed_rules.specs.declared.answers.Answer.TheVariants as Say
 use Rattle.fed_rules.specs.declared.events.CoordEvent.{CoordEvent}

@@ -1,6 +1,6 @@
 -- Each line of the coordinator: it is at its event, begins only at a `go`, counts only what may count, and asks for a vote only where all
 -- operations of a site are done.
-use Rattle.rules_laws.proofs.Sending.{all_sending, some_sending, IsSending}
+use Rattle.rules_laws.proofs.ForCallers.{IsSending, all_sending, some_sending}
 use Rattle.std.proofs.Common.{◌≡◌, ℕ, Bool, true, false, cond, ◌&&◌, ◌||◌, Option, Some, None, List, [], ◌∷◌, ◌++◌, drop, map, take, refl, sym, ◌∙◌, subst}
 use Rattle.std.specs.Prelude.{is_none, not, nat_le, length, nat_lt}
 use Rattle.mdb_base.specs.declared.acts.Step.{Step}
@@ -13,8 +13,7 @@ use Rattle.mdb_base.specs.declared.replies.Why.TheVariants as Because
 use Rattle.mdb_base.specs.Names.{same_site}
 use Rattle.mdb_base.specs.Programs.{plain_act}
 use Rattle.mdb_base.specs.Words.{Each, found, given, how_many, some_of, those, when, with_some}
-use Rattle.mdb_base.proofs.ListLaws.{each_filtered}
-use Rattle.mdb_base.proofs.NameLaws.{same_tid-equal}
+use Rattle.mdb_base.proofs.ForCallers.{each_filtered, same_tid-equal}
 use Rattle.order_laws.specs.Search.{cycle_through}
 use Rattle.order_laws.specs.Tickets.{edge_between}
 use Rattle.presumptions.specs.declared.Decision.{Decision}

@@ -3,12 +3,12 @@ use Rattle.std.proofs.Common.{◌≡◌, Bool, true, false, cond, Some, List, []
 use Rattle.mdb_base.specs.declared.names.SiteId.{SiteId}
 use Rattle.mdb_base.specs.Names.{same_site}
 use Rattle.mdb_base.specs.Rising.{IsRising}
-use Rattle.mdb_base.proofs.OptionLaws.{some_parts}
+use Rattle.mdb_base.proofs.ForCallers.{some_parts}
 use Rattle.fed_rules.specs.declared.scenario.ItemLine.{ItemLine}
 use Rattle.fed_rules.specs.declared.scenario.SiteLine.{SiteLine}
 use Rattle.fed_rules.specs.Scenarios.{home_in, items_of}
 use Rattle.fed_rules.specs.SiteRecords.{Home}
-use Rattle.engine_laws.proofs.Rows.{rising_items}
+use Rattle.engine_laws.proofs.ForCallers.{rising_items}
 
 pub home_rises : (lines : List SiteLine) (items : List ItemLine) (site : SiteId) (home : Home) → home_in lines items site ≡ Some home → IsRising (λ put. put.key.0) home.items
 home_rises [] items site home e = cc

@@ -6,7 +6,7 @@ use Rattle.order_laws.specs.Chains.{In}
 use Rattle.fed_rules.specs.declared.records.SiteRecord.{SiteRecord}
 use Rattle.fed_rules.specs.Attempts.{each_attempt}
 use Rattle.fed_rules.specs.SiteRecords.{Held, doubt_of, prepared_tids, doubts, by_tid, held_before}
-use Rattle.rules_laws.proofs.EachAttempt.{in_each}
+use Rattle.rules_laws.proofs.ForCallers.{in_each}
 use Rattle.site_history.proofs.AsSealed.{inserted_in}
 use Rattle.site_history.proofs.Starts.{doubt_among}
 

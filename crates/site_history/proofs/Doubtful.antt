@@ -4,17 +4,16 @@ use Rattle.std.proofs.Common.{◌≡◌, ◌⊎◌, true, false, Option, Some, N
 use Rattle.mdb_base.specs.declared.names.Tid.{Tid}
 use Rattle.mdb_base.specs.Names.{same_tid, tid_before}
 use Rattle.mdb_base.specs.Words.{Each, found, with_some}
-use Rattle.mdb_base.proofs.ListLaws.{each_among}
+use Rattle.mdb_base.proofs.ForCallers.{each_among}
 use Rattle.order_laws.specs.Chains.{In}
-use Rattle.order_laws.proofs.Names.{ranks_tids}
-use Rattle.order_laws.proofs.InLaws.{in_inserted}
+use Rattle.order_laws.proofs.ForCallers.{in_inserted, ranks_tids}
 use Rattle.fed_rules.specs.declared.records.SiteRecord.{SiteRecord}
 use Rattle.fed_rules.specs.Attempts.{each_attempt}
 use Rattle.fed_rules.specs.SiteRecords.{Held, doubt_of, prepared_tids, doubts, by_tid, held_before, kept_held}
 use Rattle.fed_rules.specs.SiteSums.{carried}
 use Rattle.fed_rules.specs.Usable.{RiseBy}
 use Rattle.engine_laws.specs.Laws.{EachOnce}
-use Rattle.rules_laws.proofs.Doubts.{AreSorted, sorted_by_tid}
+use Rattle.rules_laws.proofs.ForCallers.{AreSorted, sorted_by_tid}
 use Rattle.site_history.proofs.Restarts.{once_doubts}
 use Rattle.site_history.proofs.Starts.{doubt_tid}
 use Rattle.site_history.proofs.Behind.{carried_same, doubt_behind}

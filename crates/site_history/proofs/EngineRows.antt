@@ -6,9 +6,8 @@ use Rattle.mdb_base.specs.declared.rows.Put.{Put}
 use Rattle.mdb_base.specs.Rows.{with_rows}
 use Rattle.mdb_base.specs.Words.{Each, when}
 use Rattle.order_laws.specs.Chains.{In}
-use Rattle.order_laws.proofs.Lists.{each_at, each_from}
+use Rattle.order_laws.proofs.ForCallers.{each_at, each_from, in_inserted}
 use Rattle.presumptions.specs.declared.Decision.TheVariants as Decided
-use Rattle.order_laws.proofs.InLaws.{in_inserted}
 use Rattle.fed_rules.specs.declared.answers.Answer.TheVariants as Say
 use Rattle.fed_rules.specs.declared.events.SiteEvent.{SiteEvent}
 use Rattle.fed_rules.specs.declared.events.SiteEvent.TheVariants as Ev
@@ -23,9 +22,9 @@ use Rattle.fed_rules.specs.Runs.{Commits, EngineLine, Run, Seals, Start, committ
 use Rattle.fed_rules.specs.Site.{answered, number_of, of_back, site_line, site_past_on, unless_tripped}
 use Rattle.fed_rules.specs.SitePast.{SiteHappening, SitePast, disk, engine_lines, epoch_start, records, run_of, trip}
 use Rattle.fed_rules.specs.SiteRecords.{Held, Home, Install, by_number, doubt_of, install_held, installs, rows_after, site_frame, site_rows, start_of}
-use Rattle.fed_rules.proofs.RunLines.{run_at_own}
+use Rattle.fed_rules.proofs.ForCallers.{run_at_own}
 use Rattle.fed_rules.specs.Sessions.{fresh}
-use Rattle.engine_laws.proofs.Runs.{number_is, tid_is}
+use Rattle.engine_laws.proofs.ForCallers.{number_is, tid_is}
 use Rattle.site_history.specs.Events.{AreSorted, IsFresh, IsSorted}
 use Rattle.site_history.specs.Lines.{Agrees}
 use Rattle.site_history.specs.SiteOrders.{OfSortedEvents}

@@ -6,7 +6,7 @@ use Rattle.order_laws.specs.Chains.{In}
 use Rattle.fed_rules.specs.EngineLines.{IsRight}
 use Rattle.fed_rules.specs.Runs.{Start, EngineLine, Commits, Run, committed, number, run_at}
 use Rattle.engine_laws.specs.Epochs.{Epoch}
-use Rattle.engine_laws.proofs.Runs.{tid_is}
+use Rattle.engine_laws.proofs.ForCallers.{tid_is}
 use Rattle.site_history.proofs.AsSealed.{as_sealed, as_was, by_number_in, in_by_number, WasCommitted}
 
 abbrev pub epoch_of_lines : Start → List EngineLine → Epoch

@@ -5,8 +5,7 @@ use Rattle.mdb_base.specs.declared.names.Tid.{Tid}
 use Rattle.mdb_base.specs.declared.names.Tx.{Tx}
 use Rattle.mdb_base.specs.Names.{same_tx}
 use Rattle.mdb_base.specs.Words.{Among, Each, some_of}
-use Rattle.mdb_base.proofs.ListLaws.{each_among}
-use Rattle.mdb_base.proofs.NameLaws.{same_tx-refl}
+use Rattle.mdb_base.proofs.ForCallers.{each_among, same_tx-refl}
 use Rattle.fed_rules.specs.declared.records.SiteRecord.{SiteRecord}
 use Rattle.fed_rules.specs.declared.records.SiteRecord.TheVariants.{Setup, Start, Prepared, Ended, Local, Checkpoint}
 use Rattle.fed_rules.specs.Disk.{Append, Call}

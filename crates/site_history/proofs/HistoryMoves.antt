@@ -8,7 +8,7 @@ use Rattle.mdb_base.specs.declared.replies.Reply.{Reply}
 use Rattle.mdb_base.specs.declared.replies.Reply.TheVariants as Reply_is
 use Rattle.mdb_base.specs.Names.{same_tid}
 use Rattle.mdb_base.specs.Words.{Among}
-use Rattle.mdb_base.proofs.NameLaws.{same_tid-equal, same_tid-refl}
+use Rattle.mdb_base.proofs.ForCallers.{same_tid-equal, same_tid-refl}
 use Rattle.presumptions.specs.declared.Decision.{Decision}
 use Rattle.presumptions.specs.declared.Decision.TheVariants as Decided
 use Rattle.fed_rules.specs.declared.events.SiteEvent.{SiteEvent}
@@ -22,7 +22,7 @@ use Rattle.fed_rules.specs.Site.{next_number, number_of, settling_line}
 use Rattle.fed_rules.specs.SitePast.{SitePast, epoch, epoch_start, engine_lines, records, run_of}
 use Rattle.fed_rules.specs.SiteRecords.{Home, Held, doubt_of}
 use Rattle.engine_laws.specs.Epochs.{Epoch}
-use Rattle.engine_laws.proofs.Runs.{at_line}
+use Rattle.engine_laws.proofs.ForCallers.{at_line}
 use Rattle.site_history.specs.Accesses.{acts_at}
 use Rattle.site_history.specs.Events.{prepares}
 use Rattle.site_history.specs.Lines.{Agrees}

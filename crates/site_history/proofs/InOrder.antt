@@ -1,13 +1,12 @@
 -- At a site installs come in order: whichever is installed has a greater number than those before that wrote one of its keys.
-use Rattle.engine_laws.proofs.Runs.{number_is, committed_is}
+use Rattle.engine_laws.proofs.ForCallers.{IsApart, StaysClear, committed_is, is_later, number_is, placed, puts_clear, rows_apart, sound}
 use Rattle.std.proofs.Common.{◌≡◌, ℕ, ◌<◌, ◌≤◌, ◌⊎◌, Bool, true, false, cond, Option, Some, None, List, [], ◌∷◌, ◌++◌, refl, sym, ap, ◌∙◌, subst, inl, inr, arith}
 use Rattle.std.specs.Prelude.{nat_lt}
 use Rattle.mdb_base.specs.declared.names.Tid.{Tid}
 use Rattle.mdb_base.specs.declared.names.Tx.{Tx}
 use Rattle.mdb_base.specs.Names.{same_tid}
 use Rattle.mdb_base.specs.Words.{Each, inserted}
-use Rattle.mdb_base.proofs.ListLaws.{each_inserted, each_map}
-use Rattle.mdb_base.proofs.NameLaws.{same_tid-refl, same_tid-sym}
+use Rattle.mdb_base.proofs.ForCallers.{each_inserted, each_map, same_tid-refl, same_tid-sym}
 use Rattle.order_laws.specs.Chains.{In}
 use Rattle.presumptions.specs.declared.Decision.TheVariants as Decided
 use Rattle.fed_rules.specs.declared.events.SiteEvent.{SiteEvent}
@@ -20,11 +19,6 @@ use Rattle.fed_rules.specs.Runs.{EngineLine, Begins, Acts, Takes, Seals, Refuses
 use Rattle.fed_rules.specs.Site.{number_of}
 use Rattle.fed_rules.specs.SitePast.{SitePast, epoch, epoch_start, engine_lines, records}
 use Rattle.fed_rules.specs.SiteRecords.{Home, Held, Install, by_number, doubt_of, install_held, installs}
-use Rattle.engine_laws.proofs.ByNumber.{StaysClear, is_later}
-use Rattle.engine_laws.proofs.EachRule.{sound, placed}
-use Rattle.engine_laws.proofs.Restored.{rows_apart}
-use Rattle.engine_laws.proofs.Sound.{IsApart}
-use Rattle.engine_laws.proofs.Stops.{puts_clear}
 use Rattle.site_history.specs.Lines.{Agrees}
 use Rattle.site_history.proofs.AsSealed.{inserted_in}
 use Rattle.site_history.proofs.Backed.{appended}

@@ -4,10 +4,10 @@ use Rattle.std.specs.Prelude.{nat_lt}
 use Rattle.mdb_base.specs.declared.names.Tid.{Tid}
 use Rattle.mdb_base.specs.Names.{same_tid}
 use Rattle.mdb_base.specs.Words.{inserted}
-use Rattle.mdb_base.proofs.NameLaws.{same_tid-equal, same_tid-refl}
+use Rattle.mdb_base.proofs.ForCallers.{same_tid-equal, same_tid-refl}
 use Rattle.order_laws.specs.Chains.{In, Distinct}
 use Rattle.presumptions.specs.declared.Decision.TheVariants as Decided
-use Rattle.order_laws.proofs.InLaws.{in_inserted, in_map as map_in}
+use Rattle.order_laws.proofs.ForCallers.{in_inserted, in_map as map_in}
 use Rattle.fed_rules.specs.declared.records.SiteRecord.{SiteRecord}
 use Rattle.fed_rules.specs.declared.records.SiteRecord.TheVariants.{Setup, Start, Prepared, Ended, Local, Checkpoint}
 use Rattle.fed_rules.specs.SiteRecords.{Held, Install, by_number, doubt_of, due_installs, install_held, installs}

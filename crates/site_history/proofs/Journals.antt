@@ -8,11 +8,10 @@ use Rattle.fed_rules.specs.Disk.{Append, Call, CutBack, TrimFront, Stops, Sync, 
 use Rattle.fed_rules.specs.SiteRecords.{Home, site_frame}
 use Rattle.fed_rules.specs.SiteSums.{behind_sum, journal_sum, last_sum, site_sum, sum_behind, sum_with}
 use Rattle.rules_laws.specs.Durable.{IsSound}
-use Rattle.rules_laws.proofs.Durable.{sound_call, whole_all, whole_front}
-use Rattle.rules_laws.proofs.SiteRecords.{standing_all}
+use Rattle.rules_laws.proofs.ForCallers.{sound_call, standing_all, whole_all, whole_front}
 use Rattle.site_history.specs.Sums.{AreSums, ComeInOrder}
 use Rattle.site_history.proofs.SameSays.{SameSays, all_say, same_sum, says_more}
-use Rattle.site_history.proofs.Whole.{goes_on}
+use Rattle.site_history.proofs.Whole.{goes_on_in_order}
 
 pub sums_behind : (home : Home) (newest : SiteRecord) (rs : List SiteRecord) → AreSums home (newest ∷ rs) → AreSums home rs
 sums_behind home (Setup site engine protocol items) rs s = s
@@ -221,7 +220,7 @@ whole_sum home rs sums order = by_last (last_sum rs) refl
         let older : List SiteRecord = Checkpoint sum ∷ h.older in
         let is : sum ≡ site_sum home h.older = (sums_front home (behind_sum rs) older (subst (AreSums home) h.all sums)).0 in
         ap (λ (s : SiteSum). sum_with s (behind_sum rs)) is
-        ∙ goes_on home (behind_sum rs) older (subst ComeInOrder h.all order)
+        ∙ goes_on_in_order home (behind_sum rs) older (subst ComeInOrder h.all order)
         ∙ ap (site_sum home) (sym h.all)
 
 -- the last Checkpoint stands on the disk

@@ -2,8 +2,7 @@
 use Rattle.std.proofs.Common.{◌≡◌, nat_lt, length, Bool, true, false, cond, Some, List, [], ◌∷◌, refl, sym, ◌∙◌, ap, subst}
 use Rattle.mdb_base.specs.Names.{same_site}
 use Rattle.mdb_base.specs.Words.{item_at}
-use Rattle.mdb_base.proofs.NameLaws.{same_site-equal}
-use Rattle.mdb_base.proofs.OptionLaws.{some_parts}
+use Rattle.mdb_base.proofs.ForCallers.{same_site-equal, some_parts}
 use Rattle.fed_rules.specs.declared.commands.Command.{Command}
 use Rattle.fed_rules.specs.declared.commands.Command.TheVariants as Cmd
 use Rattle.fed_rules.specs.declared.events.SiteEvent.{SiteEvent}
@@ -13,9 +12,8 @@ use Rattle.fed_rules.specs.Site.{done}
 use Rattle.fed_rules.specs.SiteRecords.{Home}
 use Rattle.fed_rules.specs.Story.{Story, Happened, AtSite, AtCoordinator, Nowhere, past_of, story_of, with_site, happens, sent_to}
 use Rattle.rules_laws.specs.Lines.{SiteCause, IsLine}
-pub use Rattle.rules_laws.proofs.Declared.{home-again as home_again}
-use Rattle.rules_laws.proofs.Lines.{line_is}
-use Rattle.rules_laws.proofs.SitePasts.{live_is_of}
+pub use Rattle.rules_laws.proofs.ForCallers.{home-again as home_again}
+use Rattle.rules_laws.proofs.ForCallers.{line_is, live_is_of}
 use Rattle.site_history.specs.Led.{IsAsked, IsLedLine, IsLed, Allows, AllAllow}
 
 -- what happens at this site is its next line at an event that was asked for

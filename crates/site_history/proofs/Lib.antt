@@ -1,62 +1,63 @@
-pub mod Agreement
-pub mod AsSealed
-pub mod Backed
-pub mod BackedSteps
-pub mod Backing
-pub mod CoordAsked
-pub mod CoordSteps
-pub mod Doubted
-pub mod EpochLines
-pub mod Fronts
-pub mod GlobalSends
-pub mod Histories
-pub mod HistoryLines
-pub mod HistoryMoves
-pub mod HistoryPasts
-pub mod Installs
-pub mod LiveOnes
-pub mod LocalLines
-pub mod MadeSorted
-pub mod MessageLines
-pub mod Moves
-pub mod OpenedPasts
-pub mod OrdersRun
-pub mod Records
-pub mod Restarts
-pub mod RightLines
-pub mod SameLists
-pub mod SerialPasts
-pub mod Shut
-pub mod ShutLines
-pub mod ShutPasts
-pub mod ShutWalk
-pub mod SitesOfStories
-pub mod SortedPasts
-pub mod SortedStories
-pub mod Starts
-pub mod TicketLines
-pub mod WellKept
-pub mod Led
-pub mod About
-pub mod LineAnswers
-pub mod Mixed
-pub mod ReadSums
-pub mod RowsOnTop
-pub mod SummedPasts
-pub mod Whole
-pub mod Behind
-pub mod InOrder
-pub mod Journals
-pub mod Plain
-pub mod InOrderPasts
-pub mod MovedPasts
-pub mod OpenedSums
-pub mod OpenedStarts
-pub mod OpenedSites
-pub mod SameSays
-pub mod UsableSites
-pub mod DeclaredHomes
-pub mod Doubtful
-pub mod Founded
-pub mod RunInstalls
-pub mod EngineRows
+pub mod ForCallers
+mod Agreement
+mod AsSealed
+mod Backed
+mod BackedSteps
+mod Backing
+mod CoordAsked
+mod CoordSteps
+mod Doubted
+mod EpochLines
+mod Fronts
+mod GlobalSends
+mod Histories
+mod HistoryLines
+mod HistoryMoves
+mod HistoryPasts
+mod Installs
+mod LiveOnes
+mod LocalLines
+mod MadeSorted
+mod MessageLines
+mod Moves
+mod OpenedPasts
+mod OrdersRun
+mod Records
+mod Restarts
+mod RightLines
+mod SameLists
+mod SerialPasts
+mod Shut
+mod ShutLines
+mod ShutPasts
+mod ShutWalk
+mod SitesOfStories
+mod SortedPasts
+mod SortedStories
+mod Starts
+mod TicketLines
+mod WellKept
+mod Led
+mod About
+mod LineAnswers
+mod Mixed
+mod ReadSums
+mod RowsOnTop
+mod SummedPasts
+mod Whole
+mod Behind
+mod InOrder
+mod Journals
+mod Plain
+mod InOrderPasts
+mod MovedPasts
+mod OpenedSums
+mod OpenedStarts
+mod OpenedSites
+mod SameSays
+mod UsableSites
+mod DeclaredHomes
+mod Doubtful
+mod Founded
+mod RunInstalls
+mod EngineRows

@@ -3,16 +3,14 @@ use Rattle.std.proofs.Common.{◌≡◌, Bool, true, false, not, ◌&&◌, is_so
 use Rattle.mdb_base.specs.declared.names.Tid.{Tid}
 use Rattle.mdb_base.specs.Names.{same_tx}
 use Rattle.mdb_base.specs.Words.{found, map_some, with_some}
-use Rattle.mdb_base.proofs.NameLaws.{same_tx-refl}
-use Rattle.mdb_base.proofs.OptionLaws.{some_parts}
+use Rattle.mdb_base.proofs.ForCallers.{same_tx-refl, some_parts}
 use Rattle.order_laws.specs.Chains.{In}
-use Rattle.order_laws.proofs.Lists.{first_where_none}
+use Rattle.order_laws.proofs.ForCallers.{first_where_none}
 use Rattle.fed_rules.specs.EngineLines.{IsRight}
 use Rattle.fed_rules.specs.Runs.{Run, attempts, run_at, unended}
 use Rattle.fed_rules.specs.SitePast.{SitePast, epoch_start, engine_lines, live, live_of_tx}
 use Rattle.fed_rules.specs.SiteRecords.{Home}
-use Rattle.engine_laws.proofs.Runs.{tid_is, attempts_have}
-use Rattle.engine_laws.proofs.RunLines.{is_live_of}
+use Rattle.engine_laws.proofs.ForCallers.{attempts_have, is_live_of, tid_is}
 use Rattle.site_history.proofs.Agreement.{live_is}
 
 -- a run that is found

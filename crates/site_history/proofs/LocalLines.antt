@@ -11,9 +11,7 @@ use Rattle.mdb_base.specs.declared.replies.Why.{Why}
 use Rattle.mdb_base.specs.declared.replies.Why.TheVariants as Because
 use Rattle.mdb_base.specs.Names.{same_tid, same_tx}
 use Rattle.mdb_base.specs.Words.{Each, first_where}
-use Rattle.mdb_base.proofs.ListLaws.{each_found}
-use Rattle.mdb_base.proofs.NameLaws.{same_tid-equal, same_tid-refl, same_tx-refl}
-use Rattle.mdb_base.proofs.OptionLaws.{none_from}
+use Rattle.mdb_base.proofs.ForCallers.{each_found, none_from, same_tid-equal, same_tid-refl, same_tx-refl}
 use Rattle.fed_rules.specs.declared.answers.Answer.TheVariants as Say
 use Rattle.fed_rules.specs.declared.events.SiteEvent.TheVariants as Ev
 use Rattle.fed_rules.specs.declared.messages.FromSite.TheVariants as From
@@ -23,7 +21,7 @@ use Rattle.fed_rules.specs.Runs.{Start, EngineLine, Begins, Acts, Seals, Refuses
 use Rattle.fed_rules.specs.Site.{act_answer, next_number, number_of, of_abort, of_act, of_ask, of_begin, of_commit, of_drop, of_fate, refusal_answer, reply_to, seals_local, stop_of}
 use Rattle.fed_rules.specs.SitePast.{SitePast, attempts_of, epoch_start, engine_lines, is_local, live, live_of_tx, records, run_of}
 use Rattle.fed_rules.specs.SiteRecords.{Home, doubt_of, local_of}
-use Rattle.engine_laws.proofs.Runs.{attempts_have, tid_is}
+use Rattle.engine_laws.proofs.ForCallers.{attempts_have, tid_is}
 use Rattle.site_history.specs.Lines.{Agrees}
 use Rattle.site_history.proofs.Agreement.{IsKept, IsGoodLine, IsLiveHere, acted_open, good_given, good_when, live_here, one, one_live, still}
 

@@ -2,10 +2,8 @@
 use Rattle.std.proofs.Common.{◌≡◌, Bool, true, false, cond, Some, List, [], ◌∷◌, ◌++◌, refl, sym, ◌∙◌, ap, subst, inl}
 use Rattle.mdb_base.specs.Names.{same_site}
 use Rattle.mdb_base.specs.Words.{Each}
-use Rattle.mdb_base.proofs.ListLaws.{each_among, each_map}
-use Rattle.mdb_base.proofs.NameLaws.{same_site-equal}
-use Rattle.mdb_base.proofs.OptionLaws.{some_parts}
-use Rattle.order_laws.proofs.InLaws.{append_in}
+use Rattle.mdb_base.proofs.ForCallers.{each_among, each_map, same_site-equal, some_parts}
+use Rattle.order_laws.proofs.ForCallers.{append_in}
 use Rattle.fed_rules.specs.declared.commands.Command.{Command}
 use Rattle.fed_rules.specs.declared.events.SiteEvent.{SiteEvent}
 use Rattle.fed_rules.specs.declared.events.SiteEvent.TheVariants as Site_event
@@ -19,7 +17,7 @@ use Rattle.fed_rules.specs.SiteRecords.{Home}
 use Rattle.fed_rules.specs.Story.{Story, Happened, AtSite, AtCoordinator, Nowhere, coord_past, happens, past_of, sends_to, sent_to, story_of, with_site}
 use Rattle.site_history.specs.Events.{AreSorted}
 use Rattle.site_history.specs.Stories.{EventsAreSorted, IsGiven, is_local}
-use Rattle.rules_laws.proofs.Declared.{home-again}
+use Rattle.rules_laws.proofs.ForCallers.{home-again}
 use Rattle.site_history.proofs.SortedStories.{IsGood, IsVoteAsked, good_happens, sorted_story}
 
 -- the events that make the past of a site so far

@@ -6,7 +6,7 @@ use Rattle.mdb_base.specs.declared.names.Tid.{Tid}
 use Rattle.mdb_base.specs.declared.replies.Reply.{Reply}
 use Rattle.mdb_base.specs.declared.replies.Reply.TheVariants as Reply_is
 use Rattle.mdb_base.specs.Names.{same_tid}
-use Rattle.mdb_base.proofs.NameLaws.{same_tid-refl}
+use Rattle.mdb_base.proofs.ForCallers.{same_tid-refl}
 use Rattle.presumptions.specs.declared.Decision.{Decision}
 use Rattle.presumptions.specs.declared.Decision.TheVariants as Decided
 use Rattle.presumptions.specs.Table.{forces}
@@ -23,7 +23,7 @@ use Rattle.fed_rules.specs.Runs.{Start, EngineLine, Begins, Acts, Takes, Seals, 
 use Rattle.fed_rules.specs.Site.{ack_of, did, done, first_work, is_of_epoch, is_over, kept_reply, next_number, next_take, next_work, number_of, of_decide, of_give, of_prepare, of_take, of_work, prepare_live, repeated, reply_to, seals_global, settles, stop_of, take_live, ticket_reply_to, unheld, unknown, votes_again, votes_no, votes_yes, work_live}
 use Rattle.fed_rules.specs.SitePast.{SitePast, disk, epoch, epoch_start, engine_lines, is_closed, live, records, run_of}
 use Rattle.fed_rules.specs.SiteRecords.{Home, Held, doubt_of, site_frame}
-use Rattle.engine_laws.proofs.Rows.{rising_puts}
+use Rattle.engine_laws.proofs.ForCallers.{rising_puts}
 use Rattle.site_history.specs.Lines.{Agrees}
 use Rattle.site_history.proofs.Starts.{HasRisingWrites, EachAppend}
 use Rattle.site_history.proofs.Agreement.{IsKept, IsGoodLine, IsLiveHere, acted_open, agrees_line, free_here, good_given, good_when, live_here, one_live, still, took_open}

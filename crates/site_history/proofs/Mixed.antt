@@ -6,13 +6,13 @@ use Rattle.mdb_base.specs.declared.names.Tid.{Tid}
 use Rattle.mdb_base.specs.declared.rows.Put.{Put}
 use Rattle.mdb_base.specs.Rows.{with_rows}
 use Rattle.mdb_base.specs.Words.{Each}
-use Rattle.mdb_base.proofs.ListLaws.{each_inserted, each_map}
+use Rattle.mdb_base.proofs.ForCallers.{each_inserted, each_map}
 use Rattle.presumptions.specs.declared.Decision.TheVariants as Decided
 use Rattle.fed_rules.specs.declared.records.SiteRecord.{SiteRecord}
 use Rattle.fed_rules.specs.declared.records.SiteRecord.TheVariants.{Setup, Start, Prepared, Ended, Local, Checkpoint}
 use Rattle.fed_rules.specs.SiteRecords.{Held, Install, by_number, doubt_of, doubts, install_held, installs, rows_after}
 use Rattle.fed_rules.specs.SiteSums.{carried}
-use Rattle.rules_laws.proofs.Doubts.{carried_none}
+use Rattle.rules_laws.proofs.ForCallers.{carried_none}
 use Rattle.site_history.specs.Sums.{StaysBelow}
 use Rattle.site_history.proofs.Behind.{carried_same, doubt_behind}
 use Rattle.site_history.proofs.RowsOnTop.{rows_commute}

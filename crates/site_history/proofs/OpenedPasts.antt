@@ -17,7 +17,7 @@ use Rattle.fed_rules.specs.SitePast.{SiteHappening, SitePast, disk, records}
 use Rattle.fed_rules.specs.SiteRecords.{Held, Home, doubt_of, doubts, kept_held, last_ticket, site_frame, start_of}
 use Rattle.fed_rules.specs.Usable.{OfFronts}
 use Rattle.engine_laws.specs.Laws.{EachOnce}
-use Rattle.rules_laws.proofs.OpenedDisks.{expanded, opened_records}
+use Rattle.rules_laws.proofs.ForCallers.{expanded, opened_records}
 use Rattle.site_history.specs.Events.{AreSorted}
 use Rattle.site_history.specs.Lines.{HasRightLines}
 use Rattle.site_history.specs.SiteOrders.{HasGoodStarts}

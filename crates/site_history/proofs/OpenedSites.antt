@@ -14,9 +14,7 @@ use Rattle.fed_rules.specs.SiteRecords.{Held, Home, site_frame}
 use Rattle.fed_rules.specs.SiteSums.{carried, start_from}
 use Rattle.fed_rules.specs.Usable.{HaveSums, SumsFit, OfFronts}
 use Rattle.rules_laws.specs.Durable.{IsSound}
-use Rattle.rules_laws.proofs.Durable.{sound_calls}
-use Rattle.rules_laws.proofs.OpenedDisks.{expanded_is, opened_length, opened_synced, opened_trimmed}
-use Rattle.rules_laws.proofs.SiteRecords.{bytes-more}
+use Rattle.rules_laws.proofs.ForCallers.{bytes-more, expanded_is, opened_length, opened_synced, opened_trimmed, sound_calls}
 use Rattle.site_history.proofs.Histories.{IsSortedRecord}
 use Rattle.site_history.proofs.OpenedPasts.{named_writes, opened_is, opened_well}
 use Rattle.site_history.proofs.Starts.{HasRisingWrites}
@@ -28,7 +26,8 @@ use Rattle.site_history.proofs.InOrderPasts.{OrdersPast, anew, orders_on}
 use Rattle.site_history.proofs.Journals.{Begins, IsTrimmed}
 use Rattle.site_history.proofs.OpenedStarts.{all_start}
 use Rattle.site_history.proofs.OpenedSums.{all_in_order, all_read, all_sums, nothing_below}
-use Rattle.site_history.proofs.ReadSums.{below, beside, foundation, in_parts}
+use Rattle.site_history.proofs.Founded.{foundation}
+use Rattle.site_history.proofs.ReadSums.{below, beside, in_parts}
 use Rattle.site_history.proofs.SummedPasts.{SummedPast, says_all_on}
 
 -- the torn rest is shorter than the frame of which it is left

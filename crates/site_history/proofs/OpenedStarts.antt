@@ -3,8 +3,7 @@ use Rattle.std.proofs.Common.{◌≡◌, ℕ, ◌≤◌, ◌<◌, ◌⊎◌, Boo
 use Rattle.mdb_base.specs.declared.names.Tid.{Tid}
 use Rattle.mdb_base.specs.Names.{same_tid}
 use Rattle.mdb_base.specs.Words.{Each}
-use Rattle.mdb_base.proofs.ListLaws.{each_among, each_map}
-use Rattle.mdb_base.proofs.NameLaws.{same_tid-refl}
+use Rattle.mdb_base.proofs.ForCallers.{each_among, each_map, same_tid-refl}
 use Rattle.order_laws.specs.Chains.{In}
 use Rattle.fed_rules.specs.declared.records.SiteRecord.{SiteRecord}
 use Rattle.fed_rules.specs.declared.records.SiteRecord.TheVariants.{Setup, Start, Prepared, Ended, Local, Checkpoint}
@@ -18,7 +17,8 @@ use Rattle.site_history.proofs.OpenedPasts.{starts_by}
 use Rattle.site_history.proofs.WellKept.{StartsWell}
 use Rattle.site_history.proofs.Doubtful.{are_doubts}
 use Rattle.site_history.proofs.OpenedSums.{all_due_same, all_read}
-use Rattle.site_history.proofs.ReadSums.{below, beside, carried_has, carried_only, foundation, in_parts, locals_doubt, owner_doubt}
+use Rattle.site_history.proofs.Founded.{foundation}
+use Rattle.site_history.proofs.ReadSums.{below, beside, carried_has, carried_only, in_parts, locals_doubt, owner_doubt}
 use Rattle.site_history.proofs.SameSays.{SameDue}
 
 abbrev IsSome : Held → Type 0

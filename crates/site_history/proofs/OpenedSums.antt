@@ -7,7 +7,7 @@ use Rattle.std.proofs.lemmas.List.{append-nil, append_assoc}
 use Rattle.mdb_base.specs.declared.names.Tid.{Tid}
 use Rattle.mdb_base.specs.declared.rows.Put.{Put}
 use Rattle.mdb_base.specs.Words.{Each}
-use Rattle.mdb_base.proofs.ListLaws.{each_all, each_among, each_inserted, each_map}
+use Rattle.mdb_base.proofs.ForCallers.{each_all, each_among, each_inserted, each_map}
 use Rattle.presumptions.specs.declared.Decision.TheVariants as Decided
 use Rattle.fed_rules.specs.declared.records.SiteRecord.{SiteRecord}
 use Rattle.fed_rules.specs.declared.records.SiteRecord.TheVariants.{Setup, Start, Prepared, Ended, Local, Checkpoint}
@@ -17,13 +17,14 @@ use Rattle.fed_rules.specs.Reopened.{home_by, local_read, oldest, owner_read, si
 use Rattle.fed_rules.specs.SiteRecords.{Held, Home, Install, doubt_of, doubts, installs}
 use Rattle.fed_rules.specs.SiteSums.{carried}
 use Rattle.fed_rules.specs.Usable.{AreBehind, AreSumsOfSome, AreWithin, IsBehind, LocalsOnTop, OfFronts, SumsFit, counted, read}
-use Rattle.rules_laws.proofs.OpenedDisks.{expanded}
+use Rattle.rules_laws.proofs.ForCallers.{expanded}
 use Rattle.site_history.proofs.Fronts.{whole_of_fronts}
 use Rattle.site_history.proofs.Records.{due_install}
 use Rattle.site_history.specs.Sums.{AreDisjoint, AreSums, ComeInOrder, HeldComes, StaysBelow}
 use Rattle.site_history.proofs.Doubtful.{are_doubts}
 use Rattle.site_history.proofs.InOrder.{AllFit, DoubtsFit, IsInOrder}
-use Rattle.site_history.proofs.ReadSums.{IsHomeOf, WritesNothing, below, beside, foundation, in_parts, owner_doubt, says_sum}
+use Rattle.site_history.proofs.Founded.{foundation}
+use Rattle.site_history.proofs.ReadSums.{IsHomeOf, WritesNothing, below, beside, in_parts, owner_doubt, says_sum}
 use Rattle.site_history.proofs.SameSays.{SameDue, SameSays, all_due, all_say, due_more, same_sum, says_more}
 
 -- ---- what the records are read as, with those of a first Checkpoint and the set-up below

@@ -3,11 +3,10 @@ use Rattle.std.proofs.Common.{◌≡◌, ℕ, ◌<◌, ◌⊎◌, Some, List, []
 use Rattle.mdb_base.specs.declared.names.Tid.{Tid}
 use Rattle.mdb_base.specs.Rows.{Table}
 use Rattle.mdb_base.specs.Words.{Each}
-use Rattle.mdb_base.proofs.ListLaws.{each_among}
-use Rattle.mdb_base.proofs.JoinLaws.{reverse_more}
+use Rattle.mdb_base.proofs.ForCallers.{each_among, reverse_more}
 use Rattle.order_laws.specs.Chains.{In, Distinct}
 use Rattle.order_laws.specs.Orders.{Before}
-use Rattle.order_laws.proofs.InLaws.{in_append, in_reverse}
+use Rattle.order_laws.proofs.ForCallers.{in_append, in_reverse}
 use Rattle.fed_rules.specs.declared.records.SiteRecord.{SiteRecord}
 use Rattle.fed_rules.specs.Runs.{Access, Run, after, table_of}
 use Rattle.fed_rules.specs.SerialRuns.{HasLowerTicket, IsSerial, ReadsAlone, TicketsFall}
@@ -30,7 +29,7 @@ distinct_more x (y ∷ xs) d free = (
 pub distinct_reverse : {A : Type 0} (xs : List A) → Distinct xs → Distinct (reverse xs)
 distinct_reverse [] d = tt
 distinct_reverse (x ∷ xs) d =
-    subst Distinct (sym (reverse_more x xs)) (distinct_more x (reverse xs) (distinct_reverse xs d.1) (λ i. d.0 (in_reverse x xs i)))
+    subst Distinct (sym (reverse_more x xs)) (distinct_more x (reverse xs) (distinct_reverse xs d.1) (λ i. d.0 (in_reverse xs x i)))
 
 before_more : {A : Type 0} (xs : List A) (x a b : A) → Before (xs ++ x ∷ []) a b → Before xs a b ⊎ (In a xs × (x ≡ b))
 before_more [] x a b (inl (e, never)) = elim never [ ]
@@ -94,7 +93,7 @@ order_rising records (run ∷ runs) falls took a b j k before x y =
         → (Before (order_of_runs runs) a b → IsPrepared records a j → IsPrepared records b k → j < k) → j < k
     by_place (inl h) rest = rest h x y
     by_place (inr (i, e)) rest =
-        let one = in_map (λ r. r.tid) a runs (in_reverse a (map (λ r. r.tid) runs) i) in
+        let one = in_map (λ r. r.tid) a runs (in_reverse (map (λ r. r.tid) runs) a i) in
         let lower = each_among (HasLowerTicket run) one.item runs falls.0 one.among in
         lower k j (took.0 k (subst (λ t. IsPrepared records t k) (sym e) y))
         (each_among (HasTicketOf records) one.item runs took.1 one.among j (subst (λ t. IsPrepared records t j) (sym one.image) x))

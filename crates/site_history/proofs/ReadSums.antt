@@ -7,25 +7,21 @@ use Rattle.mdb_base.specs.declared.rows.Put.{Put}
 use Rattle.mdb_base.specs.Names.{same_tid, tid_before}
 use Rattle.mdb_base.specs.Rows.{with_rows}
 use Rattle.mdb_base.specs.Words.{Each, inserted}
-use Rattle.mdb_base.proofs.ListLaws.{each_among, each_inserted}
-use Rattle.mdb_base.proofs.NameLaws.{same_tid-equal, same_tid-refl}
+use Rattle.mdb_base.proofs.ForCallers.{each_among, each_inserted, same_tid-equal, same_tid-refl}
 use Rattle.order_laws.specs.Chains.{In}
-use Rattle.order_laws.proofs.Names.{ranks_tids}
-use Rattle.order_laws.proofs.InLaws.{inserted_first}
+use Rattle.order_laws.proofs.ForCallers.{inserted_first, ranks_tids}
 use Rattle.fed_rules.specs.declared.records.SiteRecord.{SiteRecord}
-use Rattle.fed_rules.specs.declared.records.SiteRecord.TheVariants.{Setup, Start}
+use Rattle.fed_rules.specs.declared.records.SiteRecord.TheVariants.{Start}
 use Rattle.fed_rules.specs.declared.sums.SiteSum.{SiteSum}
 use Rattle.fed_rules.specs.Reopened.{local_read, owner_read, site_sum_read}
 use Rattle.fed_rules.specs.SiteRecords.{Held, Home, Install, doubt_of, doubts, installs, last_number, last_ticket, rows_after, ticket_owner}
 use Rattle.fed_rules.specs.SiteSums.{carried, epoch_with, locals_with, site_sum}
 use Rattle.fed_rules.specs.Usable.{IsSumOfSome, IsWithin, RiseBy}
 use Rattle.site_history.proofs.Doubtful.{doubts_listed}
+use Rattle.site_history.proofs.Founded.{foundation}
 use Rattle.site_history.proofs.Whole.{same_parts}
 
--- the set-up that lies below
-abbrev pub foundation : Home → List SiteRecord
-foundation home = Start 1 ∷ Setup home.site home.engine home.protocol home.items ∷ []
-
+-- the records of the set-up, below the Start of the Sum's epoch
 abbrev pub below : Home → SiteSum → List SiteRecord
 below home sum = Start sum.epoch ∷ foundation home
 

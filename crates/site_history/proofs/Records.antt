@@ -9,7 +9,7 @@ use Rattle.fed_rules.specs.SiteRecords.{Held, Install, doubt_of, last_number, pr
 use Rattle.site_history.specs.Records.{Binds, IsBound, BindOnce}
 use Rattle.site_history.proofs.Starts.{doubt_tid}
 use Rattle.mdb_base.specs.Words.{Among}
-use Rattle.order_laws.proofs.Lists.{is_among}
+use Rattle.order_laws.proofs.ForCallers.{is_among}
 use Rattle.fed_rules.specs.Usable.{IsPreparedOf}
 use Rattle.fed_rules.specs.Reopened.{local_read}
 

@@ -6,7 +6,7 @@ use Rattle.mdb_base.specs.declared.names.Tid.{Tid}
 use Rattle.mdb_base.specs.Names.{same_tid}
 use Rattle.mdb_base.specs.Rows.{look_up}
 use Rattle.mdb_base.specs.Words.{Each, found, with_some, or_else, inserted}
-use Rattle.mdb_base.proofs.NameLaws.{same_tid-equal, same_tid-sym}
+use Rattle.mdb_base.proofs.ForCallers.{each_inserted, each_of_mapped, same_tid-equal, same_tid-sym}
 use Rattle.order_laws.specs.Chains.{In, Distinct}
 use Rattle.fed_rules.specs.declared.records.SiteRecord.{SiteRecord}
 use Rattle.fed_rules.specs.declared.records.SiteRecord.TheVariants.{Setup, Start, Prepared, Ended, Local, Checkpoint}
@@ -18,8 +18,7 @@ use Rattle.fed_rules.specs.Attempts.{each_attempt}
 use Rattle.fed_rules.specs.SiteRecords.{Home, Held, doubt_of, doubts, installs, kept_held, last_number, prepared_tids, rows_after, start_of, by_tid, held_before}
 use Rattle.engine_laws.specs.Epochs.{Epoch, AreEpochs, StartsAfter, all_committed}
 use Rattle.engine_laws.specs.Laws.{EachOnce, IsLeft}
-use Rattle.engine_laws.proofs.EachRule.{always_may_restart}
-use Rattle.engine_laws.proofs.Epochs.{history}
+use Rattle.engine_laws.proofs.ForCallers.{always_may_restart, history}
 use Rattle.site_history.specs.Lines.{Agrees}
 use Rattle.site_history.specs.Records.{BindOnce}
 use Rattle.site_history.proofs.AsSealed.{IsRunOf, all_in, as_sealed, as_was, in_all, newest_right, WasCommitted}
@@ -29,9 +28,7 @@ use Rattle.site_history.proofs.Installs.{installs_distinct}
 use Rattle.site_history.proofs.Records.{HasNumber, doubt_number, number_most}
 use Rattle.site_history.proofs.SameLists.{install_of, installs_fall, rows_of_runs, same_list}
 use Rattle.site_history.proofs.Starts.{HasRisingWrites, doubt_tid, restored_doubt, restored_held, start_agrees}
-use Rattle.mdb_base.proofs.ListLaws.{each_inserted}
-use Rattle.mdb_base.proofs.EachLaws.{each_of_mapped}
-use Rattle.rules_laws.proofs.EachAttempt.{each_distinct}
+use Rattle.rules_laws.proofs.ForCallers.{each_distinct}
 
 -- the committed runs of backed records, by falling numbers, are their installs
 pub installs_are : (home : Home) (acts : Tid → List Access) (records : List SiteRecord) (start : Runs.Start) (lines : List EngineLine)

@@ -6,7 +6,7 @@ use Rattle.mdb_base.specs.declared.rows.Put.{Put}
 use Rattle.mdb_base.specs.Names.{same_key}
 use Rattle.mdb_base.specs.Rows.{with_row, with_rows}
 use Rattle.mdb_base.specs.Words.{Each}
-use Rattle.mdb_base.proofs.NumberLaws.{not_below, not_same_after}
+use Rattle.mdb_base.proofs.ForCallers.{not_below, not_same_after}
 use Rattle.fed_rules.specs.EngineLines.{has_row}
 use Rattle.fed_rules.specs.SiteRecords.{Install, by_number, rows_after}
 use Rattle.site_history.specs.Sums.{AreDisjoint, StaysBelow}

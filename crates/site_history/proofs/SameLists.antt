@@ -1,5 +1,5 @@
 -- Runs of falling numbers and installs of falling numbers that are the same, whichever way they were listed, are one list.
-use Rattle.engine_laws.proofs.Rows.{look_up_with_rows, after_puts}
+use Rattle.engine_laws.proofs.ForCallers.{after_puts, after_same, look_up_with_rows}
 use Rattle.std.proofs.Common.{◌≡◌, ◌<◌, ◌≤◌, ◌⊎◌, Bool, true, false, cond, Option, Some, None, List, [], ◌∷◌, map, refl, sym, ap, ap₂, ◌∙◌, inl, inr, arith, ltb-true, ltb-false}
 use Rattle.std.specs.Prelude.{nat_lt}
 use Rattle.mdb_base.specs.declared.names.Key.{Key}
@@ -7,7 +7,7 @@ use Rattle.mdb_base.specs.declared.names.Tid.{Tid}
 use Rattle.mdb_base.specs.declared.rows.Put.{Put}
 use Rattle.mdb_base.specs.Rows.{look_up}
 use Rattle.mdb_base.specs.Words.{Each}
-use Rattle.mdb_base.proofs.ListLaws.{each_among, each_inserted, each_map}
+use Rattle.mdb_base.proofs.ForCallers.{each_among, each_inserted, each_map}
 use Rattle.order_laws.specs.Chains.{In, Distinct}
 use Rattle.presumptions.specs.declared.Decision.TheVariants as Decided
 use Rattle.fed_rules.specs.declared.records.SiteRecord.{SiteRecord}
@@ -15,7 +15,6 @@ use Rattle.fed_rules.specs.declared.records.SiteRecord.TheVariants.{Setup, Start
 use Rattle.fed_rules.specs.Runs.{Run, number, puts_of, table_of}
 use Rattle.fed_rules.specs.SerialRuns.{NumbersFall}
 use Rattle.fed_rules.specs.SiteRecords.{Held, Install, by_number, doubt_of, due_installs, install_held, installs, rows_after}
-use Rattle.engine_laws.proofs.Tables.{after_same}
 use Rattle.site_history.proofs.AsSealed.{HasImage}
 use Rattle.site_history.proofs.Installs.{tids_of}
 

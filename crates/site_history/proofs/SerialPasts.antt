@@ -1,5 +1,5 @@
 -- The committed attempts of a site are in a serial order, over all its stops and restarts.
-use Rattle.order_laws.proofs.Lists.{each_from}
+use Rattle.order_laws.proofs.ForCallers.{each_from, those-in}
 use Rattle.std.proofs.Common.{◌≡◌, ℕ, ◌<◌, ◌⊎◌, Bool, true, false, cond, ◌&&◌, Option, Some, None, List, [], ◌∷◌, map, reverse, refl, sym, ap, ◌∙◌, subst, inl, inr}
 use Rattle.std.specs.Prelude.{is_some}
 use Rattle.std.proofs.lemmas.Bool.{and_from, and_parts}
@@ -8,10 +8,9 @@ use Rattle.mdb_base.specs.declared.names.Tx.{Tx}
 use Rattle.mdb_base.specs.Names.{same_tid}
 use Rattle.mdb_base.specs.Rows.{look_up}
 use Rattle.mdb_base.specs.Words.{Among, Each, or_else, those}
-use Rattle.mdb_base.proofs.NameLaws.{same_tid-equal}
+use Rattle.mdb_base.proofs.ForCallers.{same_tid-equal}
 use Rattle.order_laws.specs.Chains.{In, Distinct}
 use Rattle.order_laws.specs.Orders.{Before}
-use Rattle.order_laws.proofs.InLaws.{those-in}
 use Rattle.fed_rules.specs.declared.records.SiteRecord.{SiteRecord}
 use Rattle.fed_rules.specs.declared.records.SiteRecord.TheVariants.{Prepared}
 use Rattle.fed_rules.specs.Runs as Runs
@@ -22,7 +21,7 @@ use Rattle.fed_rules.specs.SitePast.{SitePast, epoch_start, engine_lines, record
 use Rattle.fed_rules.specs.SiteRecords.{Home, Held, Install, doubt_of, due_installs, installs, prepared_tids, rows_after, start_of}
 use Rattle.engine_laws.specs.Epochs.{Epoch, all_committed}
 use Rattle.engine_laws.specs.Laws.{AreSealed}
-use Rattle.engine_laws.proofs.Epochs.{history}
+use Rattle.engine_laws.proofs.ForCallers.{history}
 use Rattle.site_history.specs.Accesses.{acts_at}
 use Rattle.site_history.specs.Lines.{Agrees}
 use Rattle.site_history.specs.Records.{BindOnce, IsPrepared, TellOutcomes}

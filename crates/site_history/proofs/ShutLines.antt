@@ -6,7 +6,7 @@ use Rattle.mdb_base.specs.declared.names.Tid.{Tid}
 use Rattle.mdb_base.specs.declared.names.Tx.{Tx}
 use Rattle.mdb_base.specs.declared.rows.Put.{Put}
 use Rattle.mdb_base.specs.Words.{Among, Each, some_of, when}
-use Rattle.mdb_base.proofs.ListLaws.{each_among}
+use Rattle.mdb_base.proofs.ForCallers.{each_among}
 use Rattle.order_laws.specs.Chains.{In}
 use Rattle.fed_rules.specs.declared.events.SiteEvent.{SiteEvent}
 use Rattle.fed_rules.specs.declared.records.SiteRecord.{SiteRecord}

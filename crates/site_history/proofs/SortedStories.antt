@@ -6,10 +6,8 @@ use Rattle.mdb_base.specs.declared.names.Tid.{Tid}
 use Rattle.mdb_base.specs.declared.names.Tx.{Tx}
 use Rattle.mdb_base.specs.Names.{same_site, same_tx}
 use Rattle.mdb_base.specs.Words.{Each, first_where, map_some, those}
-use Rattle.mdb_base.proofs.ListLaws.{append_each}
-use Rattle.mdb_base.proofs.NameLaws.{same_site-equal, same_tx-equal}
-use Rattle.mdb_base.proofs.EachLaws.{each_item_at}
-use Rattle.order_laws.proofs.InLaws.{item_at-in}
+use Rattle.mdb_base.proofs.ForCallers.{append_each, each_item_at, same_site-equal, same_tx-equal}
+use Rattle.order_laws.proofs.ForCallers.{item_at-in}
 use Rattle.fed_rules.specs.CoordPast.{CoordHappening, CoordPast}
 use Rattle.fed_rules.specs.declared.messages.ToSite.{ToSite}
 use Rattle.fed_rules.specs.declared.messages.ToSite.TheVariants as To
@@ -26,10 +24,9 @@ use Rattle.fed_rules.specs.Scenarios.{global_line, global_program, home_at, home
 use Rattle.fed_rules.specs.Site.{site_line}
 use Rattle.fed_rules.specs.SiteRecords.{Home}
 use Rattle.fed_rules.specs.Story.{Story, Happened, AtSite, AtCoordinator, Nowhere, at_coordinator, coord_past, happens, past_of, sends_to, sent_to, story_of, with_coordinator}
-use Rattle.engine_laws.proofs.RunLines.{is_live_of}
+use Rattle.engine_laws.proofs.ForCallers.{is_live_of}
 use Rattle.rules_laws.specs.Lines.{SiteCause, CoordCause, IsLine}
-use Rattle.rules_laws.proofs.Lines.{line_is}
-use Rattle.rules_laws.proofs.SitePasts.{live_is_of}
+use Rattle.rules_laws.proofs.ForCallers.{line_is, live_is_of}
 use Rattle.site_history.specs.Events.{IsSorted}
 use Rattle.site_history.specs.Stories.{IsGiven, is_local}
 use Rattle.site_history.proofs.CoordAsked.{AreBegun, IsAskedVote, IsNextGo, begun_next, vote_stays}

@@ -4,17 +4,17 @@ use Rattle.mdb_base.specs.declared.names.Tid.{Tid}
 use Rattle.mdb_base.specs.Names.{same_tid, tid_before}
 use Rattle.mdb_base.specs.Rising.{IsRising}
 use Rattle.mdb_base.specs.Words.{Each, Among, found, with_some, map_some, inserted}
-use Rattle.mdb_base.proofs.NameLaws.{same_tid-equal, same_tid-refl, before_itself}
+use Rattle.mdb_base.proofs.ForCallers.{before_itself, same_tid-equal, same_tid-refl}
 use Rattle.fed_rules.specs.declared.records.SiteRecord.{SiteRecord}
 use Rattle.fed_rules.specs.declared.records.SiteRecord.TheVariants.{Setup, Start, Prepared, Ended, Local, Checkpoint}
 use Rattle.fed_rules.specs.Disk.{Disk, Call, Append, Sync, CutBack, TrimFront, Stops, whole, bytes_of, after_call, after_calls}
 use Rattle.fed_rules.specs.Runs.{Run, restored, restored_at, run_at}
 use Rattle.fed_rules.specs.Attempts.{each_attempt}
 use Rattle.fed_rules.specs.SiteRecords.{Home, Held, doubt_of, prepared_tids, doubts, kept_held, start_of, by_tid, held_before}
-use Rattle.engine_laws.proofs.Rows.{puts_of_written}
+use Rattle.engine_laws.proofs.ForCallers.{puts_of_written}
 use Rattle.site_history.specs.Lines.{Agrees}
 use Rattle.std.specs.Prelude.{nat_le, min, ◌+◌, ◌++◌}
-use Rattle.rules_laws.proofs.EachAttempt.{in_each}
+use Rattle.rules_laws.proofs.ForCallers.{in_each}
 
 -- the writes of a Prepared record rise by their keys
 abbrev pub HasRisingWrites : SiteRecord → Type 0

@@ -5,8 +5,7 @@ use Rattle.mdb_base.specs.declared.names.Tid.{Tid}
 use Rattle.mdb_base.specs.declared.names.Tx.{Tx}
 use Rattle.mdb_base.specs.declared.rows.Put.{Put}
 use Rattle.mdb_base.specs.Words.{Among, Each, or_else, some_of, when}
-use Rattle.mdb_base.proofs.ListLaws.{each_among}
-use Rattle.mdb_base.proofs.NameLaws.{same_tid-refl}
+use Rattle.mdb_base.proofs.ForCallers.{each_among, same_tid-refl}
 use Rattle.order_laws.specs.Chains.{In}
 use Rattle.fed_rules.specs.declared.answers.Answer.TheVariants as Say
 use Rattle.fed_rules.specs.declared.events.SiteEvent.{SiteEvent}
@@ -22,9 +21,7 @@ use Rattle.fed_rules.specs.Runs.{EngineLine, Run, changed, published, run_at, ti
 use Rattle.fed_rules.specs.Site.{answered, number_of, of_back, site_line, site_past, unless_tripped}
 use Rattle.fed_rules.specs.SitePast.{SiteHappening, SitePast, disk, engine_lines, epoch, epoch_start, live, live_one, records, run_of, trip}
 use Rattle.fed_rules.specs.SiteRecords.{Home, Held, doubt_of, last_ticket, site_frame, start_of}
-use Rattle.engine_laws.proofs.Origins.{ticket_next}
-use Rattle.engine_laws.proofs.Runs.{Own, at_line, begins, got, own, seals, stays, takes, wrote}
-use Rattle.engine_laws.proofs.Tickets.{published_at, published_grows}
+use Rattle.engine_laws.proofs.ForCallers.{Own, at_line, begins, got, own, published_at, published_grows, seals, stays, takes, ticket_next, wrote}
 use Rattle.site_history.specs.Events.{AreSorted, IsFresh, IsSorted, PreparesOnce, prepares}
 use Rattle.site_history.specs.Records.{IsPrepared, Prepares}
 use Rattle.site_history.specs.SiteOrders.{OfSortedPasts}

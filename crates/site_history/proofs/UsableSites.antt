@@ -5,11 +5,9 @@ use Rattle.mdb_base.specs.declared.names.Tid.{Tid}
 use Rattle.mdb_base.specs.declared.names.Tx.{Tx}
 use Rattle.mdb_base.specs.Names.{same_tx, tid_before}
 use Rattle.mdb_base.specs.Words.{Among, Each, inserted, some_of}
-use Rattle.mdb_base.proofs.NameLaws.{same_tx-equal, same_tx-refl}
-use Rattle.mdb_base.proofs.EachLaws.{among_behind, among_split}
+use Rattle.mdb_base.proofs.ForCallers.{among_behind, among_split, same_tx-equal, same_tx-refl}
 use Rattle.order_laws.specs.Chains.{In}
-use Rattle.order_laws.proofs.Lists.{each_from}
-use Rattle.order_laws.proofs.InLaws.{same_tids}
+use Rattle.order_laws.proofs.ForCallers.{each_from, same_tids}
 use Rattle.fed_rules.specs.declared.records.SiteRecord.{SiteRecord}
 use Rattle.fed_rules.specs.declared.records.SiteRecord.TheVariants.{Setup, Start, Prepared, Ended, Local, Checkpoint}
 use Rattle.fed_rules.specs.declared.sums.SiteSum.{SiteSum}

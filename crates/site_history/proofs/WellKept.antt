@@ -5,7 +5,7 @@ use Rattle.std.specs.Prelude.{nat_le, length, ◌+◌, max}
 use Rattle.mdb_base.specs.declared.names.Tid.{Tid}
 use Rattle.mdb_base.specs.declared.names.Tx.{Tx}
 use Rattle.mdb_base.specs.Words.{Each, when, or_else}
-use Rattle.mdb_base.proofs.ListLaws.{each_map}
+use Rattle.mdb_base.proofs.ForCallers.{each_map}
 use Rattle.presumptions.specs.declared.Decision.{Decision}
 use Rattle.presumptions.specs.declared.Decision.TheVariants as Decided
 use Rattle.fed_rules.specs.declared.answers.Answer.TheVariants as Say
@@ -23,15 +23,13 @@ use Rattle.fed_rules.specs.SitePast.{SiteHappening, SitePast, disk, engine_lines
 use Rattle.fed_rules.specs.SiteRecords.{Home, doubt_of, doubts, kept_held, last_number, last_ticket, site_frame, start_of, ticket_owner}
 use Rattle.fed_rules.specs.Usable.{OfFronts}
 use Rattle.engine_laws.specs.Laws.{IsLeft}
-use Rattle.engine_laws.proofs.EachRule.{always_may_restart}
-use Rattle.engine_laws.proofs.Rows.{rows_of_table}
-use Rattle.engine_laws.proofs.Runs.{at_line}
+use Rattle.engine_laws.proofs.ForCallers.{always_may_restart, at_line, rows_of_table}
 use Rattle.rules_laws.specs.Durable.{IsFrontOf}
 use Rattle.site_history.specs.Events.{AreSorted, IsFresh, IsSorted}
 use Rattle.site_history.specs.Lines.{Agrees}
 use Rattle.site_history.specs.SiteOrders.{HasGoodStarts, OfSortedEvents}
 use Rattle.site_history.proofs.Agreement.{IsGoodLine, IsKept, kept_good, kept_start, still}
-use Rattle.rules_laws.proofs.Disks.{front_of_front}
+use Rattle.rules_laws.proofs.ForCallers.{front_of_front}
 use Rattle.site_history.proofs.Backed.{appended, each_front, front_after}
 use Rattle.site_history.proofs.Fronts.{HasNoStop, fronts_of_front, move_no_stop, stop_last, taken_front, whole_of_fronts}
 use Rattle.site_history.proofs.Histories.{IsSortedRecord, no_local_doubt}

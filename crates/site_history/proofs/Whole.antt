@@ -29,8 +29,8 @@ pub same_parts : (home : Home) {e f c d p q : ℕ} {o w : Option Tid} {r s : Lis
     → e ≡ f → c ≡ d → p ≡ q → o ≡ w → r ≡ s → l ≡ m → x ≡ y → sum_of home e c p o r l x ≡ sum_of home f d q w s m y
 same_parts home a b c d e f g = cc
 
-pub goes_on : SumsGoOn
-goes_on home newer older order =
+pub goes_on_in_order : SumsGoOn
+goes_on_in_order home newer older order =
     same_parts home (epoch_behind 0 newer older) (number_behind newer older) (ticket_behind newer older) (owner_behind newer older)
     (rows_behind home.items newer older order) (locals_behind (let none : List Tid = [] in none) newer older) (doubts_behind newer older)
 

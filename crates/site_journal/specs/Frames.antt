@@ -4,7 +4,7 @@ use Rattle.fed_rules.specs.declared.records.SiteRecord.{SiteRecord}
 use Rattle.fed_rules.specs.declared.records.SiteRecord.TheVariants.{Setup, Start, Prepared, Ended, Local, Checkpoint}
 use Rattle.fed_rules.specs.SiteRecords.{site_frame}
 use Rattle.frame_journal.specs.Journal.{written_size}
-use Rattle.frame_journal.proofs.Entries.{new_size}
+use Rattle.frame_journal.proofs.ForCallers.{new_size}
 use Rattle.site_journal.specs.PayloadSizes.{payload_has_size}
 use Rattle.site_journal.specs.Spelling.{spelling}
 

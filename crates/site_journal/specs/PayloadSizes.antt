@@ -11,8 +11,8 @@ use Rattle.fed_rules.specs.SiteRecords.{site_payload, doubtful_size, owner_size}
 use Rattle.record_fields.specs.Items.{joined}
 use Rattle.record_fields.specs.Named.{a_tid, writes}
 use Rattle.record_fields.specs.Sums.{maybe, a_doubtful, tids, doubtful}
-use Rattle.record_fields.proofs.Joined.{length-joined}
-use Rattle.record_fields.proofs.Sizes as sizes
+use Rattle.record_fields.proofs.ForCallers.{length-joined}
+use Rattle.record_fields.proofs.ForCallers as sizes
 use Rattle.site_journal.specs.Spelling.{checkpoint, spelling}
 
 pub tids_size : (locals : List Tid) → length (joined a_tid.spelling locals) ≡ 5 * length locals

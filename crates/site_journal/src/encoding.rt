@@ -92,7 +92,7 @@ fn put_sum(out: &mut Vec<u8>, sum: &SiteSum)
 }
 
 /// Writes a record's payload behind the other bytes, for which there is room.
-#[tactic(auto, using(record_fields::proofs::Sizes::rows_size))]
+#[tactic(auto, using(record_fields::proofs::ForCallers::rows_size))]
 pub fn put_record(entry: &SiteRecord, out: &mut Vec<u8>)
     requires in_range { InRange entry.now }
     requires payload { IsPayload (spelling entry.now) }

@@ -5,7 +5,7 @@ use Rattle.std.specs.Map.{lookup, keys_of}
 use Rattle.mdb_base.specs.declared.names.Key.{Key}
 use Rattle.mdb_base.specs.declared.rows.Put.{Put}
 use Rattle.mdb_base.specs.Rows.{HaveOwnKeys, value_in}
-use Rattle.mdb_base.proofs.RowLaws.{nat_eq-sym}
+use Rattle.mdb_base.proofs.ForCallers.{nat_eq-sym}
 use Rattle.site_tables.specs.declared.versions.Version.{Version}
 use Rattle.site_tables.specs.Tables.{put_of, row_of}
 

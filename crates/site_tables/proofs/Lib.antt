@@ -1,4 +1,5 @@
-pub mod AllRows
-pub mod Looks
-pub mod OneRow
-pub mod Writes
+pub mod ForCallers
+mod AllRows
+mod Looks
+mod OneRow
+mod Writes

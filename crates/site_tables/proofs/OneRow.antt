@@ -6,7 +6,7 @@ use Rattle.std.specs.Map.{lookup}
 use Rattle.mdb_base.specs.declared.names.Key.{Key}
 use Rattle.mdb_base.specs.declared.rows.Put.{Put}
 use Rattle.mdb_base.specs.Rows.{value_in}
-use Rattle.mdb_base.proofs.RowLaws.{nat_eq-sym}
+use Rattle.mdb_base.proofs.ForCallers.{nat_eq-sym}
 use Rattle.site_tables.specs.declared.versions.Version.{Version}
 use Rattle.site_tables.specs.Tables.{Versions, is_newer, with_row, written}
 use Rattle.site_tables.proofs.Looks.{ties, get-lookup}

@@ -7,8 +7,7 @@ use Rattle.mdb_base.specs.declared.rows.Put.{Put}
 use Rattle.mdb_base.specs.Names.{same_key}
 use Rattle.mdb_base.specs.Rising.{IsRising}
 use Rattle.mdb_base.specs.Rows.{value_in}
-use Rattle.mdb_base.proofs.OptionLaws.{first_of}
-use Rattle.mdb_base.proofs.RowLaws.{rising_tail}
+use Rattle.mdb_base.proofs.ForCallers.{first_of, rising_tail}
 use Rattle.site_tables.specs.declared.versions.Version.{Version}
 use Rattle.site_tables.specs.Tables.{is_newer, written}
 

@@ -1,3 +1,4 @@
-pub mod Refuted
-pub mod ReadAs
-pub mod Restarts
+pub mod ForCallers
+mod Refuted
+mod ReadAs
+mod Restarts

@@ -4,7 +4,7 @@ use Rattle.mdb_base.specs.declared.names.Tid.{Tid}
 use Rattle.mdb_base.specs.declared.names.Tx.{Tx}
 use Rattle.mdb_base.specs.Words.{Each}
 use Rattle.order_laws.specs.Chains.{In}
-use Rattle.order_laws.proofs.Members.{in_each}
+use Rattle.order_laws.proofs.ForCallers.{in_each}
 use Rattle.fed_rules.specs.declared.records.CoordRecord.{CoordRecord}
 use Rattle.fed_rules.specs.declared.records.SiteRecord.{SiteRecord}
 use Rattle.fed_rules.specs.declared.records.SiteRecord.TheVariants.{Setup, Start, Prepared, Ended, Local, Checkpoint}
@@ -22,20 +22,14 @@ use Rattle.fed_rules.specs.SitePast.{SiteHappening}
 use Rattle.fed_rules.specs.SiteRecords.{Held, Home, epoch_of, site_frame}
 use Rattle.fed_rules.specs.SiteSums.{epoch_with, journal_sum, site_sum, start_from}
 use Rattle.fed_rules.specs.Usable as Usable
-use Rattle.rules_laws.proofs.OpenedDisks.{expanded, opened_journal, opened_length, opened_trimmed}
-use Rattle.coord_laws.proofs.OpenedPasts.{is_silent, opened_attempts, opened_begun, opened_disk}
-use Rattle.coord_laws.proofs.Past.{recorded_begun}
+use Rattle.rules_laws.proofs.ForCallers.{expanded, opened_journal, opened_length, opened_trimmed}
+use Rattle.coord_laws.proofs.ForCallers.{going_tells, is_silent, names_declared, nothing_read, opened_attempts, opened_begun, opened_disk, read_is, recorded_begun, usable_go_on}
 use Rattle.coord_laws.specs.CoordRestarts.{TellsRecords}
 use Rattle.site_history.specs.FoundSites.{IsFoundSite}
 use Rattle.sum_laws.specs.ReadAs.{AreRead, CoordinatorsAreReadAs, SiteIsReadAs, SitesAreReadAs}
-use Rattle.coord_laws.proofs.CoordOpened.{nothing_read, read_is}
-use Rattle.coord_laws.proofs.CoordOpened as Coordinators
-use Rattle.coord_laws.proofs.CoordRestarts.{going_tells}
-use Rattle.site_history.proofs.OpenedSites.{disk_is, found_says_all}
-use Rattle.site_history.proofs.OpenedSites as Sites
-use Rattle.site_history.proofs.OpenedSums.{all_read, read_more}
-use Rattle.site_history.proofs.ReadSums.{foundation}
-use Rattle.coord_laws.proofs.UsableCoordinators.{names_declared, usable_go_on}
+use Rattle.coord_laws.proofs.ForCallers as Coordinators
+use Rattle.site_history.proofs.ForCallers.{all_read, disk_is, found_says_all, foundation, read_more}
+use Rattle.site_history.proofs.ForCallers as Sites
 
 -- ---- a site
 

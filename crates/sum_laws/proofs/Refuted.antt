@@ -4,8 +4,7 @@ use Rattle.mdb_base.specs.declared.names.Engine.TheVariants.{Locking}
 use Rattle.presumptions.specs.declared.Protocol.TheVariants as By
 use Rattle.fed_rules.specs.declared.commands.Command.{Command}
 use Rattle.fed_rules.specs.declared.scenario.Scenario.{Scenario}
-use Rattle.fed_rules.proofs.Opened.{opened}
-use Rattle.fed_rules.proofs.Spelled.{tid, set, site, step_at, global, scenario_of, go, give, take, check}
+use Rattle.fed_rules.proofs.ForCallers.{check, give, global, go, opened, scenario_of, set, site, step_at, take, tid}
 use Rattle.sum_laws.specs.WrongReading.{ForgetsACommit}
 
 abbrev one_site : Scenario

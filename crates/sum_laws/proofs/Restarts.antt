@@ -1,7 +1,7 @@
 -- In every story a restart of the coordinator reads from its journal what all its records say.
 use Rattle.fed_rules.specs.Scenarios.{policy, protocols}
 use Rattle.fed_rules.specs.Story.{coord_past, story_of}
-use Rattle.coord_laws.proofs.CoordRestarts.{journal_tells}
+use Rattle.coord_laws.proofs.ForCallers.{journal_tells}
 use Rattle.commit_laws.specs.Pasts.{CoordinatorsAreMadeByEvents}
 use Rattle.sum_laws.specs.Restarts.{JournalsTellRestarts}
 

@@ -5,7 +5,7 @@ use Rattle.mdb_base.specs.declared.names.SiteTicket.{SiteTicket}
 use Rattle.mdb_base.specs.declared.replies.Edge.{Edge}
 use Rattle.mdb_base.specs.Words.{some_of, first_where, map_some}
 use Rattle.order_laws.specs.Tickets.{Ticketed, Precedes, is_above, edge_between}
-use Rattle.order_laws.proofs.Tickets.{edge_some, linked}
+use Rattle.order_laws.proofs.ForCallers.{edge_some, linked}
 
 -- the first site at which the one has a smaller ticket than the other
 abbrev pub first_site : List SiteTicket → List SiteTicket → Option SiteId

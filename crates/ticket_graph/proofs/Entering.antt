@@ -5,11 +5,7 @@ use Rattle.mdb_base.specs.Words.{Each, those}
 use Rattle.order_laws.specs.Chains.{In, Chain, Acyclic, Within}
 use Rattle.order_laws.specs.Search.{Linked}
 use Rattle.order_laws.specs.Tickets.{Ticketed, HasNoCycle, OneEach, edge_between}
-use Rattle.order_laws.proofs.Chains.{acyclic_map}
-use Rattle.order_laws.proofs.InLaws.{in_parts}
-use Rattle.order_laws.proofs.Lists.{each_at, in_those, those_in}
-use Rattle.order_laws.proofs.Source.{path_one, some_source}
-use Rattle.order_laws.proofs.Tickets.{acyclic_no_cycle, edge_some, linked, no_cycle_acyclic}
+use Rattle.order_laws.proofs.ForCallers.{acyclic_map, acyclic_no_cycle, each_at, edge_some, in_parts, in_those, linked, no_cycle_acyclic, path_one, some_source, those_in}
 use Rattle.ticket_graph.specs.Entered.{entered, is_entered, tickets_of}
 use Rattle.ticket_graph.proofs.GraphLemmas.{tids_more}
 use Rattle.ticket_graph.proofs.Parts.{in_left, in_right}

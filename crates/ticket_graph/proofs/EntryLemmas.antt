@@ -5,8 +5,7 @@ use Rattle.std.proofs.lemmas.List.{take_more, length-take}
 use Rattle.std.specs.Ordering.{is_eq}
 use Rattle.mdb_base.specs.declared.names.SiteTicket.{SiteTicket}
 use Rattle.mdb_base.specs.Words.{some_of, holds_of}
-use Rattle.mdb_base.proofs.TestLaws.{some_of-push}
-use Rattle.mdb_base.proofs.NumberLaws.{suc_not_zero}
+use Rattle.mdb_base.proofs.ForCallers.{some_of-push, suc_not_zero}
 use Rattle.order_laws.specs.Tickets.{Ticketed}
 use Rattle.ticket_graph.specs.declared.entries.Entry.{Entry}
 use Rattle.ticket_graph.specs.Entries.{entry_cmp, is_ticket, is_entry}

@@ -7,9 +7,7 @@ use Rattle.order_laws.specs.Chains.{In, Distinct}
 use Rattle.order_laws.specs.Orders.{Before}
 use Rattle.order_laws.specs.Search.{Linked}
 use Rattle.order_laws.specs.Tickets.{Ticketed, Precedes, OneEach, edge_between}
-use Rattle.order_laws.proofs.Chains.{way_one, way_append}
-use Rattle.order_laws.proofs.Tickets.{linked, way_cycle}
-use Rattle.order_laws.proofs.InLaws.{in_parts, distinct_joined}
+use Rattle.order_laws.proofs.ForCallers.{distinct_joined, in_parts, linked, way_append, way_cycle, way_one}
 use Rattle.ticket_graph.specs.Graph.{tids_of, IsForwards, IsTopological, IsVerdict}
 use Rattle.ticket_graph.specs.declared.verdict.Verdict.TheVariants.{Added}
 use Rattle.ticket_graph.specs.Reach.{are_before, reached, unreached}

@@ -7,12 +7,11 @@ use Rattle.mdb_base.specs.declared.names.Tid.{Tid}
 use Rattle.mdb_base.specs.declared.replies.Edge.{Edge}
 use Rattle.mdb_base.specs.Rising.{IsRising}
 use Rattle.mdb_base.specs.Words.{Each}
-use Rattle.mdb_base.proofs.ListLaws.{each_map}
+use Rattle.mdb_base.proofs.ForCallers.{each_map}
 use Rattle.order_laws.specs.Chains.{In, Chain}
 use Rattle.order_laws.specs.Search.{Linked}
 use Rattle.order_laws.specs.Tickets.{Ticketed, Precedes, IsEdge, IsCycle, OneEach, edge_between}
-use Rattle.order_laws.proofs.Lists.{map_among, among_map, is_among, among_is}
-use Rattle.order_laws.proofs.Tickets.{edge_some, cycle_way}
+use Rattle.order_laws.proofs.ForCallers.{among_is, among_map, cycle_way, edge_some, is_among, map_among}
 use Rattle.mdb_base.specs.Names.{tid_cmp}
 use Rattle.ticket_graph.specs.Graph.{tids_of, IsVerdict}
 use Rattle.ticket_graph.specs.Trail.{IsClosed, IsFinding}

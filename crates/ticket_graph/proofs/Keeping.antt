@@ -5,9 +5,9 @@ use Rattle.std.proofs.Math.Seq.{drop-cons}
 use Rattle.std.proofs.lemmas.List.{take_more_set, take-set, take-set-le, drop-set-lt, length-set, drop-drop}
 use Rattle.mdb_base.specs.declared.names.SiteId.{SiteId}
 use Rattle.mdb_base.specs.declared.names.SiteTicket.{SiteTicket}
-use Rattle.mdb_base.proofs.JoinLaws.{append_nil}
+use Rattle.mdb_base.proofs.ForCallers.{append_nil}
 use Rattle.order_laws.specs.Tickets.{Ticketed}
-use Rattle.order_laws.proofs.Lists.{bool_is}
+use Rattle.order_laws.proofs.ForCallers.{bool_is}
 use Rattle.ticket_graph.specs.Reach.{are_before, reached, unreached, floor_in, highest, highest_of, IsLowest}
 
 -- ---- an item that is swapped with an earlier one

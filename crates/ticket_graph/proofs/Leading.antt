@@ -6,11 +6,11 @@ use Rattle.mdb_base.specs.declared.names.SiteId.{SiteId}
 use Rattle.mdb_base.specs.declared.names.SiteTicket.{SiteTicket}
 use Rattle.mdb_base.specs.declared.names.Tid.{Tid}
 use Rattle.mdb_base.specs.Words.{some_of, first_where, map_some}
-use Rattle.mdb_base.proofs.ListLaws.{among_some}
+use Rattle.mdb_base.proofs.ForCallers.{among_some}
 use Rattle.order_laws.specs.Chains.{In}
 use Rattle.mdb_base.specs.Names.{tid_cmp}
 use Rattle.order_laws.specs.Tickets.{Ticketed, Precedes, is_above}
-use Rattle.order_laws.proofs.Lists.{some_of_is, is_among}
+use Rattle.order_laws.proofs.ForCallers.{is_among, some_of_is}
 use Rattle.ticket_graph.specs.Reach.{are_before, reached, unreached}
 use Rattle.ticket_graph.specs.Trail.{IsClosed}
 use Rattle.ticket_graph.proofs.EdgeSites.{first_site}

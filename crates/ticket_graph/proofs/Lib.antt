@@ -1,19 +1,20 @@
-pub mod EntryLemmas
-pub mod SearchLemmas
-pub mod StepLemmas
-pub mod TrailLemmas
-pub mod Searching
-pub mod EdgeSites
-pub mod Parts
-pub mod Tables
-pub mod Meeting
-pub mod Keeping
-pub mod GraphLemmas
-pub mod Reaching
-pub mod Leading
-pub mod Forwards
-pub mod Heights
-pub mod Pruning
-pub mod Standing
-pub mod Restoring
-pub mod Entering
+pub mod ForCallers
+mod EntryLemmas
+mod SearchLemmas
+mod StepLemmas
+mod TrailLemmas
+mod Searching
+mod EdgeSites
+mod Parts
+mod Tables
+mod Meeting
+mod Keeping
+mod GraphLemmas
+mod Reaching
+mod Leading
+mod Forwards
+mod Heights
+mod Pruning
+mod Standing
+mod Restoring
+mod Entering

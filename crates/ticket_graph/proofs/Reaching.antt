@@ -4,14 +4,11 @@ use Rattle.mdb_base.specs.declared.names.SiteId.{SiteId}
 use Rattle.mdb_base.specs.declared.names.SiteTicket.{SiteTicket}
 use Rattle.mdb_base.specs.declared.names.Tid.{Tid}
 use Rattle.mdb_base.specs.Words.{some_of}
-use Rattle.mdb_base.proofs.ListLaws.{among_some}
+use Rattle.mdb_base.proofs.ForCallers.{among_some}
 use Rattle.order_laws.specs.Chains.{In, Way}
 use Rattle.order_laws.specs.Search.{Linked}
 use Rattle.order_laws.specs.Tickets.{Ticketed, Precedes, OneEach, is_above, edge_between}
-use Rattle.order_laws.proofs.Chains.{way_one, way_append}
-use Rattle.order_laws.proofs.Lists.{some_of_is, is_among, bool_is}
-use Rattle.order_laws.proofs.Tickets.{linked, above_is, is_above_true}
-use Rattle.order_laws.proofs.InLaws.{in_parts}
+use Rattle.order_laws.proofs.ForCallers.{above_is, bool_is, in_parts, is_above_true, is_among, linked, some_of_is, way_append, way_one}
 use Rattle.ticket_graph.specs.Graph.{tids_of, IsForwards}
 use Rattle.ticket_graph.specs.Reach.{is_over, are_before, reached, unreached}
 use Rattle.ticket_graph.proofs.GraphLemmas.{in_tids}

@@ -2,7 +2,7 @@
 use Rattle.std.proofs.Common.{◌≡◌, List, [], ◌∷◌, ◌++◌, refl, sym, ap, ◌∙◌, subst, inl, inr}
 use Rattle.order_laws.specs.Chains.{In}
 use Rattle.order_laws.specs.Tickets.{Ticketed, HasNoCycle, OneEach}
-use Rattle.order_laws.proofs.InLaws.{in_parts}
+use Rattle.order_laws.proofs.ForCallers.{in_parts}
 use Rattle.ticket_graph.specs.declared.verdict.Verdict.TheVariants.{Added}
 use Rattle.ticket_graph.specs.Graph.{Graph, tids_of, IsVerdict, IsWith, StandsFor}
 use Rattle.ticket_graph.proofs.GraphLemmas.{cycle_more, tid_in, in_tids}

@@ -9,20 +9,14 @@ use Rattle.mdb_base.specs.declared.names.SiteTicket.{SiteTicket}
 use Rattle.mdb_base.specs.declared.names.Tid.{Tid}
 use Rattle.mdb_base.specs.Names.{same_tid, same_site, tid_cmp}
 use Rattle.mdb_base.specs.Words.{Each, Among, some_of, holds_of}
-use Rattle.mdb_base.proofs.ListLaws.{among_some, each_map}
-use Rattle.mdb_base.proofs.NameLaws.{same_tid-equal, same_tid-refl, same_site-equal, same_site-refl}
-use Rattle.mdb_base.proofs.TestLaws.{some_of-push}
-use Rattle.mdb_base.proofs.PlaceLaws.{slice_get-below, slice_get-front}
-use Rattle.mdb_base.proofs.OptionLaws.{some_parts}
+use Rattle.mdb_base.proofs.ForCallers.{among_some, each_map, same_site-equal, same_site-refl, same_tid-equal, same_tid-refl, slice_get-below, slice_get-front, some_of-push, some_parts}
 use Rattle.order_laws.specs.Chains.{In}
 use Rattle.order_laws.specs.Tickets.{Ticketed, Precedes, OneEach}
-use Rattle.order_laws.proofs.Lists.{among_is, bool_is, some_of_is, is_among, each_at, one_image}
-use Rattle.order_laws.proofs.Names.{is_eq-tid_cmp}
+use Rattle.order_laws.proofs.ForCallers.{among_is, bool_is, each_at, is_among, is_eq-tid_cmp, one_image, slice_get-in, some_of_is}
 use Rattle.ticket_graph.specs.declared.entries.Entry.{Entry}
 use Rattle.ticket_graph.specs.declared.steps.Step.{Step}
 use Rattle.ticket_graph.specs.Entries.{entry_cmp, is_ticket, is_entry}
 use Rattle.ticket_graph.specs.Steps.{is_reached, IsAbove, IsStepAbove, Follows, IsDone}
-use Rattle.order_laws.proofs.InLaws.{slice_get-in}
 use Rattle.ticket_graph.specs.Trail.{IsAt, IsSource, IsEdgeStep, IsTrail, is_reached_tid, IsClosed}
 use Rattle.ticket_graph.proofs.StepLemmas.{reached_longer, done_still}
 use Rattle.ticket_graph.proofs.TrailLemmas.{source_later}

@@ -8,8 +8,7 @@ use Rattle.mdb_base.specs.Names.{same_tid}
 use Rattle.mdb_base.specs.Words.{Each, some_of}
 use Rattle.order_laws.specs.Chains.{In}
 use Rattle.order_laws.specs.Tickets.{Ticketed, Precedes, IsEdge, Leads, OneEach}
-use Rattle.order_laws.proofs.Lists.{each_at, one_image, bool_is, is_in_true, is_in_false}
-use Rattle.order_laws.proofs.Names.{tells_tids}
+use Rattle.order_laws.proofs.ForCallers.{bool_is, each_at, is_in_false, is_in_true, one_image, tells_tids}
 use Rattle.ticket_graph.specs.declared.verdict.Verdict.{Verdict}
 use Rattle.ticket_graph.specs.declared.verdict.Verdict.TheVariants.{Added, Cycle}
 use Rattle.ticket_graph.specs.Graph.{Graph, attempts_after, floor_of, tids_of, AreAbove, AreBelow, IsAfter, IsPruned, IsVerdict, IsWith, StandsFor}

@@ -6,10 +6,8 @@ use Rattle.std.specs.BTreeSet.{BTreeSet, contains, btree_set_len}
 use Rattle.std.proofs.lemmas.Bool.{or_left, or_right}
 use Rattle.mdb_base.specs.declared.names.SiteTicket.{SiteTicket}
 use Rattle.mdb_base.specs.Words.{Each, Among}
-use Rattle.mdb_base.proofs.ListLaws.{append_each, each_map}
-use Rattle.mdb_base.proofs.TestLaws.{some_of-push}
-use Rattle.mdb_base.proofs.EachLaws.{among_append, among_behind}
-use Rattle.order_laws.proofs.Lists.{among_weaker, bool_is}
+use Rattle.mdb_base.proofs.ForCallers.{among_append, among_behind, append_each, each_map, some_of-push}
+use Rattle.order_laws.proofs.ForCallers.{among_weaker, bool_is}
 use Rattle.ticket_graph.specs.declared.entries.Entry.{Entry}
 use Rattle.ticket_graph.specs.declared.steps.Step.{Step}
 use Rattle.ticket_graph.specs.Entries.{entry_cmp}

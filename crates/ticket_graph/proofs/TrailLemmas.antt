@@ -5,10 +5,10 @@ use Rattle.mdb_base.specs.declared.names.SiteId.{SiteId}
 use Rattle.mdb_base.specs.declared.names.Tid.{Tid}
 use Rattle.mdb_base.specs.declared.replies.Edge.{Edge}
 use Rattle.mdb_base.specs.Words.{Each}
-use Rattle.mdb_base.proofs.PlaceLaws.{slice_get-below}
+use Rattle.mdb_base.proofs.ForCallers.{slice_get-below}
 use Rattle.order_laws.specs.Chains.{In}
 use Rattle.order_laws.specs.Tickets.{Ticketed, Precedes, IsEdge, Leads, IsCycle}
-use Rattle.order_laws.proofs.InLaws.{slice_get-in}
+use Rattle.order_laws.proofs.ForCallers.{slice_get-in}
 use Rattle.ticket_graph.specs.declared.steps.Step.{Step}
 use Rattle.ticket_graph.specs.Trail.{IsSource, IsTrail, IsBack}
 

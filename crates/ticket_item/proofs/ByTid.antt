@@ -6,10 +6,7 @@ use Rattle.std.proofs.lemmas.Bool.{or_parts, or_right, or_from, false_from_ne_tr
 use Rattle.mdb_base.specs.declared.names.Tid.{Tid}
 use Rattle.mdb_base.specs.Names.{same_tid, tid_before}
 use Rattle.mdb_base.specs.Words.{Each, holds_of, inserted, item_at}
-use Rattle.mdb_base.proofs.ListLaws.{each_map, each_inserted}
-use Rattle.mdb_base.proofs.NameLaws.{same_tid-refl, same_tid-equal, before_onward, before_apart, apart_behind, before_not_back}
-use Rattle.mdb_base.proofs.Words.{item_at-within, item_at-past}
-use Rattle.mdb_base.proofs.BoolLaws.{or_false, or_swap}
+use Rattle.mdb_base.proofs.ForCallers.{apart_behind, before_apart, before_not_back, before_onward, each_inserted, each_map, item_at-past, item_at-within, or_false, or_swap, same_tid-equal, same_tid-refl}
 use Rattle.ticket_item.specs.Item.{count_before, is_among, IsByTid}
 
 total : (a b : Tid) → tid_before a b ≡ false → same_tid b a ≡ false → tid_before b a ≡ true

@@ -19,28 +19,21 @@ use Rattle.fed_rules.specs.Runs.{Start, EngineLine, Begins, Acts, Takes, Seals, 
 use Rattle.fed_rules.specs.Replies.{age_of, key_of, access_stop, ticket_stop, seal_stop, seal_number, granted, granted_by, rule, or_reply}
 use Rattle.fed_rules.specs.EngineLines.{IsRightLine, IsFree, IsStart}
 use Rattle.engine_contract.specs.Calls.{start_from}
-use Rattle.engine_laws.proofs.AgeTickets.{age_one_taker}
-use Rattle.engine_laws.proofs.TimestampRuns.{timestamp_by_age}
+use Rattle.engine_laws.proofs.ForCallers.{age_one_taker, timestamp_by_age}
 use Rattle.run_book.specs.declared.counters.Counters.{Counters}
 use Rattle.run_book.specs.Held.{Held, held_in}
 use Rattle.run_book.specs.Book.{Book, started, begins, unbegins, unseals, drops, table_in, taken_by}
 use Rattle.run_book.specs.Keeps.{Keeps}
 use Rattle.run_book.specs.Laws.{IsCalled}
 use Rattle.run_book.specs.Rivals.{rival_by}
-use Rattle.run_book.proofs.Calls.{run_at-held}
-use Rattle.run_book.proofs.Carried.{starts_well, calls_well, unbegins_well, unseals_well}
-use Rattle.run_book.proofs.Ends.{called_ends}
-use Rattle.run_book.proofs.Tables.{after-table}
+use Rattle.run_book.proofs.ForCallers.{after-table, called_ends, calls_well, run_at-held, starts_well, unbegins_well, unseals_well}
 use Rattle.access_ages.specs.declared.key_ages.KeyAges.{KeyAges}
 use Rattle.access_ages.specs.Ages.{Ages, ages_of, no_ages, restored_writer, unwritten}
 use Rattle.access_ages.specs.Takers.{ByAge, Takers, no_takers, restored_takers, without_taker}
 use Rattle.access_ages.specs.Stops.{above, below, youngest_against, key_stop, IsTicketStop}
 use Rattle.access_ages.specs.Lines.{KeepsAges}
 use Rattle.access_ages.specs.Laws.{AreNow, where_written, IsNoted}
-use Rattle.access_ages.proofs.Rules.{stops_access}
-use Rattle.access_ages.proofs.Tickets.{unlisted}
-use Rattle.access_ages.proofs.TicketRules.{stops_taking}
-use Rattle.access_ages.proofs.Steps.{follows_begins, follows_calls, follows_starts, follows_unseals, noted_ends, stop_shape}
+use Rattle.access_ages.proofs.ForCallers.{follows_begins, follows_calls, follows_starts, follows_unseals, noted_ends, stop_shape, stops_access, stops_taking, unlisted}
 use Rattle.timestamp_engine.specs.declared.engine.TimestampEngine.{TimestampEngine}
 use Rattle.timestamp_engine.specs.Stands.{Stands, EndsRun, StopsRun}
 

@@ -4,7 +4,7 @@ use Rattle.std.proofs.lemmas.Option.{none-some, same_Some}
 use Rattle.std.proofs.lemmas.Bool.{false≢true}
 use Rattle.mdb_base.specs.Words.{each_of}
 use Rattle.mdb_base.specs.declared.replies.Edge.{Edge}
-use Rattle.mdb_base.proofs.BoolLaws.{is_true_parts, is_true_both}
+use Rattle.mdb_base.proofs.ForCallers.{is_true_both, is_true_parts}
 use Rattle.presumptions.specs.declared.Decision.{Decision}
 use Rattle.presumptions.specs.declared.Decision.TheVariants as Final
 use Rattle.fed_rules.specs.declared.answers.Answer.{Answer}

@@ -3,7 +3,7 @@ use Rattle.std.proofs.Common.{◌≡◌, ℕ, ◌&&◌, IsTrue, List, [], ◌∷
 use Rattle.std.proofs.lemmas.Option.{none-some, same_Some}
 use Rattle.mdb_base.specs.Words.{map_some}
 use Rattle.mdb_base.specs.declared.names.Tid.{Tid}
-use Rattle.mdb_base.proofs.BoolLaws.{is_true_parts, is_true_both}
+use Rattle.mdb_base.proofs.ForCallers.{is_true_both, is_true_parts}
 use Rattle.fed_rules.specs.declared.commands.Command.{Command}
 use Rattle.fed_rules.specs.declared.commands.Command.TheVariants as Ask
 use Rattle.line_text.specs.declared.word.Keyword.{Keyword}

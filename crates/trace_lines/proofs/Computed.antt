@@ -14,8 +14,7 @@ use Rattle.mdb_base.specs.Texts.{tid_text}
 use Rattle.mdb_base.specs.Words.{Each, each_of, map_some}
 use Rattle.mdb_base.specs.declared.names.Tid.{Tid}
 use Rattle.mdb_base.specs.declared.replies.Edge.{Edge}
-use Rattle.mdb_base.proofs.BoolLaws.{is_true_parts, is_true_both}
-use Rattle.mdb_base.proofs.TestLaws.{first_passes}
+use Rattle.mdb_base.proofs.ForCallers.{first_passes, is_true_both, is_true_parts}
 use Rattle.fed_rules.specs.declared.commands.Line.{Line}
 use Rattle.fed_rules.specs.declared.commands.Place.{Place}
 use Rattle.line_text.specs.declared.word.Keyword.{Keyword}

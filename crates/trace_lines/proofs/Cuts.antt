@@ -2,7 +2,7 @@
 use Rattle.std.proofs.Common.{◌≡◌, Bool, true, false, not, cond, IsTrue, List, [], ◌∷◌, ◌++◌, Option, Some, None, refl, ap, subst}
 use Rattle.std.proofs.lemmas.Option.{none-some, same_Some}
 use Rattle.mdb_base.specs.Words.{map_some}
-use Rattle.mdb_base.proofs.BoolLaws.{is_true_parts, is_true_both, not_true}
+use Rattle.mdb_base.proofs.ForCallers.{is_true_both, is_true_parts, not_true}
 use Rattle.line_text.specs.declared.word.Keyword.TheVariants as Key
 use Rattle.trace_lines.specs.declared.marks.Mark.{Mark}
 use Rattle.line_text.specs.declared.word.Word.{Word}

@@ -2,7 +2,7 @@
 use Rattle.std.proofs.Common.{◌≡◌, ◌≢◌, ℕ, not, eqb, IsTrue, List, [], ◌∷◌, ◌++◌, get_or, codes, nat_lt, append_assoc, refl, sym, ap, ◌∙◌, arith}
 use Rattle.std.proofs.lemmas.Bool.{ltb-true, eq-eqb}
 use Rattle.mdb_base.specs.Words.{each_of, Each}
-use Rattle.mdb_base.proofs.BoolLaws.{is_true_parts}
+use Rattle.mdb_base.proofs.ForCallers.{all_append, is_true_parts}
 use Rattle.fed_rules.specs.declared.commands.Command.{Command}
 use Rattle.fed_rules.specs.declared.commands.Command.TheVariants as Ask
 use Rattle.fed_rules.specs.declared.commands.Line.{Line}
@@ -13,11 +13,10 @@ use Rattle.line_text.specs.Range.{is_line}
 use Rattle.line_text.specs.Words.{word_text}
 use Rattle.line_text.specs.Spelling.{command_words, answer_words, sends_words, line_words, words_bytes, line_bytes, lines_bytes}
 use Rattle.trace_lines.proofs.Bytes.{Lacks}
-use Rattle.mdb_base.proofs.EachLaws.{all_append}
 use Rattle.trace_lines.proofs.Pairs.{one_parting}
 use Rattle.trace_lines.proofs.Pieces.{AreWords}
 use Rattle.trace_lines.proofs.Visible.{is_visible, AreVisible, visible_word}
-use Rattle.line_text.proofs.Written.{line_parts}
+use Rattle.line_text.proofs.ForCallers.{line_parts}
 use Rattle.trace_lines.proofs.Lines.{line_is_words}
 use Rattle.trace_lines.proofs.Spelled.{same_line}
 

@@ -6,7 +6,7 @@ use Rattle.mdb_base.specs.Words.{map_some}
 use Rattle.mdb_base.specs.declared.names.Key.{Key}
 use Rattle.mdb_base.specs.declared.names.SiteId.{SiteId}
 use Rattle.mdb_base.specs.declared.names.Tx.{Tx}
-use Rattle.mdb_base.proofs.BoolLaws.{is_true_parts}
+use Rattle.mdb_base.proofs.ForCallers.{is_true_parts}
 use Rattle.line_text.specs.Range.{is_large, is_small, is_site, is_tx, is_key, is_actor, is_count, is_cut}
 
 -- what a function makes of a value that a test let through

@@ -1,20 +1,20 @@
-pub mod Bytes
-pub mod Pairs
-pub mod ParsedNumbers
-pub mod Named
-pub mod Pieces
-pub mod Guards
-pub mod CommandLaws
-pub mod Replies
-pub mod Cuts
-pub mod Causes
-pub mod Answered
-pub mod Sends
-pub mod Lines
-pub mod OneWord
-pub mod Visible
-pub mod Spelled
-pub mod Computed
-pub mod Determined
-pub mod Opened
+mod Bytes
+mod Pairs
+mod ParsedNumbers
+mod Named
+mod Pieces
+mod Guards
+mod CommandLaws
+mod Replies
+mod Cuts
+mod Causes
+mod Answered
+mod Sends
+mod Lines
+mod OneWord
+mod Visible
+mod Spelled
+mod Computed
+mod Determined
+mod Opened
 mod Examples

@@ -2,7 +2,7 @@
 use Rattle.std.proofs.Common.{◌≡◌, cond, ◌&&◌, IsTrue, List, [], ◌∷◌, ◌++◌, map, Option, Some, None, option_and_then, append-nil, refl, sym, ap, ◌∙◌, subst}
 use Rattle.std.proofs.lemmas.Option.{none-some, cond_some}
 use Rattle.mdb_base.specs.Words.{map_some, each_of}
-use Rattle.mdb_base.proofs.BoolLaws.{is_true_parts, is_true_both}
+use Rattle.mdb_base.proofs.ForCallers.{is_true_both, is_true_parts}
 use Rattle.fed_rules.specs.declared.commands.Command.{Command}
 use Rattle.fed_rules.specs.declared.commands.Line.{Line}
 use Rattle.fed_rules.specs.declared.commands.Place.{Place}
@@ -14,7 +14,7 @@ use Rattle.line_text.specs.declared.word.Word.TheVariants.{Plain}
 use Rattle.line_text.specs.Fits.{answer_fits, places_fit, line_fits}
 use Rattle.line_text.specs.Range.{is_place, command_in_range, answer_in_range, line_in_range, is_line}
 use Rattle.line_text.specs.Spelling.{command_words, answer_words, place_word, sends_words, line_words}
-use Rattle.line_text.proofs.Written.{line_parts}
+use Rattle.line_text.proofs.ForCallers.{line_parts}
 use Rattle.trace_lines.specs.Reading.{command_of, answer_of, places_of, cut_at, sends_of, line_behind, line_of}
 use Rattle.trace_lines.proofs.Pieces.{AreWords}
 use Rattle.trace_lines.proofs.Guards.{from_map, from_next}

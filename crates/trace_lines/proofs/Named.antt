@@ -7,14 +7,13 @@ use Rattle.mdb_base.specs.Texts.{tid_text}
 use Rattle.mdb_base.specs.declared.names.SiteId.{SiteId}
 use Rattle.mdb_base.specs.declared.names.Tid.{Tid}
 use Rattle.mdb_base.specs.declared.replies.Edge.{Edge}
-use Rattle.mdb_base.proofs.BoolLaws.{is_true_parts, is_true_both}
+use Rattle.mdb_base.proofs.ForCallers.{all_append, is_true_both, is_true_parts}
 use Rattle.fed_rules.specs.declared.commands.Place.{Place}
 use Rattle.line_text.specs.Range.{is_large, is_small, is_site, is_tx, is_tid, is_place, is_edge}
 use Rattle.line_text.specs.Words.{place_text, edge_text}
 use Rattle.trace_lines.specs.Lexing.{Spells, are_large, numbers_text, tid_at, place_at, site_text, is_target, target_text, are_both, pair_text}
 use Rattle.trace_lines.specs.Reading.{site_of}
 use Rattle.trace_lines.proofs.Bytes.{Lacks, lacks-decimal}
-use Rattle.mdb_base.proofs.EachLaws.{all_append}
 use Rattle.trace_lines.proofs.Pairs.{one_parting}
 
 -- a number has one spelling

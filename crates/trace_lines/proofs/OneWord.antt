@@ -8,7 +8,7 @@ use Rattle.mdb_base.specs.Texts.{tid_text}
 use Rattle.mdb_base.specs.declared.names.SiteId.{SiteId}
 use Rattle.mdb_base.specs.declared.names.Tid.{Tid}
 use Rattle.mdb_base.specs.declared.replies.Edge.{Edge}
-use Rattle.mdb_base.proofs.BoolLaws.{is_true_parts}
+use Rattle.mdb_base.proofs.ForCallers.{all_append, is_true_parts}
 use Rattle.fed_rules.specs.declared.commands.Place.{Place}
 use Rattle.line_text.specs.declared.word.Keyword.{Keyword}
 use Rattle.line_text.specs.declared.word.Keyword.TheVariants as Key
@@ -19,7 +19,6 @@ use Rattle.line_text.specs.Words.{keyword_text, place_text, edge_text, word_text
 use Rattle.trace_lines.specs.Lexing.{Spells, target_text, site_text}
 use Rattle.trace_lines.specs.Lexed.{keyword_in}
 use Rattle.trace_lines.proofs.Bytes.{AreDigits, Lacks, digits-decimal, lacks-decimal}
-use Rattle.mdb_base.proofs.EachLaws.{all_append}
 use Rattle.trace_lines.proofs.Pairs.{one_parting}
 use Rattle.trace_lines.proofs.Named.{one_number, one_pair, site_is_large, tid_is_large, place_is_large, lacks-tid, lacks_in_tid, tid_parts, place_parts, edge_parts}
 use Rattle.trace_lines.proofs.Pieces.{AreWords}

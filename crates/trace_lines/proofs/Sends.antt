@@ -4,7 +4,7 @@ use Rattle.std.proofs.lemmas.Option.{none-some, same_Some}
 use Rattle.std.proofs.lemmas.Bool.{false≢true, eqb-true}
 use Rattle.mdb_base.specs.Words.{each_of}
 use Rattle.mdb_base.specs.declared.names.SiteId.{SiteId}
-use Rattle.mdb_base.proofs.BoolLaws.{is_true_parts, is_true_both}
+use Rattle.mdb_base.proofs.ForCallers.{is_true_both, is_true_parts}
 use Rattle.fed_rules.specs.declared.commands.Command.{Command}
 use Rattle.fed_rules.specs.declared.commands.Command.TheVariants as Ask
 use Rattle.fed_rules.specs.declared.commands.Place.{Place}

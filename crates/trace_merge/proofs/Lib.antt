@@ -1,6 +1,7 @@
-pub mod Least
-pub mod Lists
-pub mod Merging
-pub mod Steps
-pub mod Places
-pub mod OneTrace
+pub mod ForCallers
+mod Least
+mod Lists
+mod Merging
+mod Steps
+mod Places
+mod OneTrace

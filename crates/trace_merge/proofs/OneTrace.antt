@@ -2,7 +2,7 @@
 use Rattle.std.proofs.Common.{◌≡◌, ℕ, ◌⊎◌, inl, inr, List, [], ◌∷◌, map, refl, ap, sym, ◌∙◌, subst, arith}
 use Rattle.std.proofs.lemmas.Bool.Decides.{eqb_tells}
 use Rattle.std.proofs.lemmas.Bool.{eq-eqb}
-use Rattle.mdb_base.proofs.Words.{cond-true, cond-false}
+use Rattle.mdb_base.proofs.ForCallers.{cond-false, cond-true}
 use Rattle.mdb_base.specs.Words.{Each}
 use Rattle.fed_rules.specs.declared.commands.Stamped.{Stamped}
 use Rattle.trace_merge.specs.Traces.{Entry, IsOrdered, ComesBefore, lines_of}

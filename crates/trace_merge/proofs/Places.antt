@@ -1,7 +1,7 @@
 -- Where lines stand in a trace.
 use Rattle.std.proofs.Common.{◌≡◌, ℕ, ◌<◌, inl, inr, List, [], ◌∷◌, ◌++◌, refl, ap, sym, ◌∙◌, subst, arith}
 use Rattle.std.proofs.lemmas.Bool.Decides.{eqb_tells}
-use Rattle.mdb_base.proofs.Words.{cond-true, cond-false}
+use Rattle.mdb_base.proofs.ForCallers.{cond-false, cond-true}
 use Rattle.mdb_base.specs.Words.{Each, Among}
 use Rattle.fed_rules.specs.declared.commands.Stamped.{Stamped}
 use Rattle.trace_merge.specs.Traces.{Entry, IsOrdered, ComesBefore, list_of, lines_of}

@@ -7,7 +7,7 @@ use Rattle.mdb_base.specs.Names.{same_tid}
 use Rattle.mdb_base.specs.Words.{some_of, those}
 use Rattle.order_laws.specs.Chains.{In}
 use Rattle.order_laws.specs.Tickets.{OneEach, Ticketed}
-use Rattle.order_laws.proofs.Alike.{same_of}
+use Rattle.order_laws.proofs.ForCallers.{same_of}
 use Rattle.fed_rules.specs.declared.records.CoordRecord.{CoordRecord}
 use Rattle.fed_rules.specs.declared.records.CoordRecord.TheVariants.{Initiation, Commit, Abort, End, Checkpoint}
 use Rattle.fed_rules.specs.declared.sums.CommittedAttempt.{CommittedAttempt}

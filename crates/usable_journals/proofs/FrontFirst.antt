@@ -4,19 +4,15 @@ use Rattle.std.proofs.lemmas.List.{append_assoc}
 use Rattle.mdb_base.specs.declared.names.Tid.{Tid}
 use Rattle.mdb_base.specs.Names.{same_tid, tid_before}
 use Rattle.mdb_base.specs.Words.{Among, Each}
-use Rattle.mdb_base.proofs.ListLaws.{each_all, each_inserted}
-use Rattle.mdb_base.proofs.NameLaws.{before_apart, same_tid-refl, same_tid-sym}
+use Rattle.mdb_base.proofs.ForCallers.{before_apart, each_all, each_inserted, same_tid-refl, same_tid-sym}
 use Rattle.order_laws.specs.Chains.{In}
-use Rattle.order_laws.proofs.Lists.{among_is, each_at}
+use Rattle.order_laws.proofs.ForCallers.{among_is, each_at}
 use Rattle.fed_rules.specs.declared.records.SiteRecord.{SiteRecord}
 use Rattle.fed_rules.specs.declared.records.SiteRecord.TheVariants.{Setup, Start, Prepared, Ended, Local, Checkpoint}
 use Rattle.fed_rules.specs.Reopened.{home_by, local_read}
 use Rattle.fed_rules.specs.SiteRecords.{Held, Home, Install, doubt_of, installs}
 use Rattle.fed_rules.specs.Usable.{AreSumsOfSome, AreWithin, KeepClear, OnceEach, RiseBy, TicketsRise, counted, tickets}
-use Rattle.site_history.proofs.ReadSums.{WritesNothing, carried_installs}
-use Rattle.site_history.proofs.Records.{doubt_prepared, locals_undoubted}
-use Rattle.site_history.proofs.SameSays.{SameDue, all_due}
-use Rattle.site_history.proofs.Starts.{doubt_tid}
+use Rattle.site_history.proofs.ForCallers.{SameDue, WritesNothing, all_due, carried_installs, doubt_prepared, doubt_tid, locals_undoubted}
 use Rattle.usable_journals.specs.declared.fronts.Front.{Front}
 use Rattle.usable_journals.specs.Fronts.{AreInOrder, AreNew, FallByTicket, IsDoubt, IsNew, IsTakenAs, MayAllStand, TakesAll, Tells, below, held_read}
 use Rattle.usable_journals.proofs.FrontLaws.{AreAllApart, may_hold_from, new_or_old, still, was_doubt}

@@ -6,18 +6,16 @@ use Rattle.mdb_base.specs.declared.names.Tid.{Tid}
 use Rattle.mdb_base.specs.declared.rows.Put.{Put}
 use Rattle.mdb_base.specs.Names.{same_key, same_tid}
 use Rattle.mdb_base.specs.Words.{each_of}
-use Rattle.mdb_base.proofs.BoolLaws.{is_true_both, is_true_parts}
-use Rattle.mdb_base.proofs.NameLaws.{same_key-equal, same_key-refl, same_tid-equal, same_tid-refl, same_tid-sym}
-use Rattle.mdb_base.proofs.OptionLaws.{some_parts}
+use Rattle.mdb_base.proofs.ForCallers.{is_true_both, is_true_parts, same_key-equal, same_key-refl, same_tid-equal, same_tid-refl, same_tid-sym, some_parts}
 use Rattle.order_laws.specs.Chains.{In}
-use Rattle.order_laws.proofs.Lists.{each_from, each_of_at, each_of_true}
+use Rattle.order_laws.proofs.ForCallers.{each_from, each_of_at, each_of_true}
 use Rattle.presumptions.specs.declared.Decision.{Decision}
 use Rattle.fed_rules.specs.declared.records.SiteRecord.{SiteRecord}
 use Rattle.fed_rules.specs.declared.records.SiteRecord.TheVariants.{Setup, Start, Prepared, Ended, Local, Checkpoint}
 use Rattle.fed_rules.specs.EngineLines.{AreApart, has_row}
 use Rattle.fed_rules.specs.SiteRecords.{Held, Install, doubt_of, installs, kept_held}
 use Rattle.fed_rules.specs.Usable.{KeepClear}
-use Rattle.engine_laws.proofs.Restored.{rows_apart}
+use Rattle.engine_laws.proofs.ForCallers.{rows_apart}
 use Rattle.journal_sums.specs.Versions.{key_cmp}
 use Rattle.usable_journals.specs.declared.fronts.Front.{Front}
 use Rattle.usable_journals.specs.Fronts as tests

@@ -2,23 +2,18 @@
 use Rattle.std.proofs.Common.{◌≡◌, ◌<◌, ◌⊎◌, ◌↔◌, nat_lt, Bool, true, false, Option, Some, None, List, [], ◌∷◌, ◌++◌, refl, sym, ap, ◌∙◌, subst, inl, inr}
 use Rattle.mdb_base.specs.Names.{same_tid}
 use Rattle.mdb_base.specs.Words.{Each}
-use Rattle.mdb_base.proofs.NameLaws.{same_tid-sym}
+use Rattle.mdb_base.proofs.ForCallers.{same_tid-sym}
 use Rattle.order_laws.specs.Chains.{In}
-use Rattle.order_laws.proofs.InLaws.{in_inserted}
-use Rattle.order_laws.proofs.Lists.{each_at, each_from}
+use Rattle.order_laws.proofs.ForCallers.{each_at, each_from, in_inserted}
 use Rattle.presumptions.specs.declared.Decision.TheVariants as Decided
 use Rattle.fed_rules.specs.declared.records.SiteRecord.{SiteRecord}
 use Rattle.fed_rules.specs.declared.records.SiteRecord.TheVariants.{Setup, Start, Prepared, Ended, Local, Checkpoint}
 use Rattle.fed_rules.specs.SiteRecords.{Held, Install, doubt_of, doubts, install_held, installs}
 use Rattle.fed_rules.specs.Usable.{AreBehind, DoubtsApart, IsBehind, KeepClear, LocalsOnTop, OfFronts, counted}
-use Rattle.site_history.proofs.AsSealed.{inserted_in}
-use Rattle.site_history.proofs.Doubtful.{are_doubts, doubts_are}
-use Rattle.site_history.proofs.SameSays.{SameDue, all_due}
-use Rattle.site_history.proofs.Starts.{doubt_tid}
+use Rattle.site_history.proofs.ForCallers.{SameDue, all_due, are_doubts, counted_more, doubt_tid, doubts_are, inserted_in}
 use Rattle.usable_journals.proofs.OnceLaws.{counted_behind}
 use Rattle.usable_journals.specs.Fronts.{AreInOrder, IsDoubt, IsNew, MayAllStand, MayStand}
 use Rattle.usable_journals.proofs.FrontLaws.{AreAllApart, apart_more, may_hold_from, new_or_old, newly, was_doubt}
-use Rattle.site_history.proofs.OpenedSums.{counted_more}
 
 -- ---- the rules in the words of who is in doubt
 

@@ -11,9 +11,9 @@ use Rattle.mdb_base.specs.declared.names.Tid.{Tid}
 use Rattle.mdb_base.specs.declared.rows.Put.{Put}
 use Rattle.mdb_base.specs.Names.{same_tid, tid_cmp}
 use Rattle.mdb_base.specs.Words.{each_of}
-use Rattle.mdb_base.proofs.NameLaws.{same_tid-equal}
+use Rattle.mdb_base.proofs.ForCallers.{same_tid-equal, tid_ties}
 use Rattle.order_laws.specs.Chains.{In}
-use Rattle.order_laws.proofs.InLaws.{in_inserted}
+use Rattle.order_laws.proofs.ForCallers.{in_inserted}
 use Rattle.presumptions.specs.declared.Decision.{Decision}
 use Rattle.presumptions.specs.declared.Protocol.{Protocol}
 use Rattle.fed_rules.specs.declared.sums.SiteSum.{SiteSum}
@@ -22,15 +22,13 @@ use Rattle.fed_rules.specs.declared.records.SiteRecord.{SiteRecord}
 use Rattle.fed_rules.specs.declared.records.SiteRecord.TheVariants.{Setup, Start, Ended, Local, Checkpoint}
 use Rattle.fed_rules.specs.EngineLines.{has_row}
 use Rattle.fed_rules.specs.SiteRecords.{Held, Install, by_number, doubt_of, install_held, installs}
-use Rattle.site_history.proofs.AsSealed.{inserted_in}
-use Rattle.site_history.proofs.Starts.{doubt_tid}
+use Rattle.site_history.proofs.ForCallers.{doubt_tid, inserted_in}
 use Rattle.journal_sums.specs.Versions.{key_cmp}
 use Rattle.usable_journals.specs.declared.fronts.Front.{Front}
 use Rattle.usable_journals.specs.Fronts as tests
 use Rattle.usable_journals.specs.Fronts.{CanHold, IsDoubt, IsHeldBy, IsLast, IsNew, IsWrittenUpTo, MayAllStand, MayStand, AreNew, Takes, Tells, held_read, walk}
 use Rattle.usable_journals.specs.SiteTests.{greater_of}
 use Rattle.usable_journals.proofs.FrontLaws.{AreAllApart, apart_more, apart_numbers, both_write, hold_back, hold_there, new_or_old, newly, one_doubt, stays_doubt, still, was_doubt, write_back, write_there}
-use Rattle.mdb_base.proofs.NameOrders.{tid_ties}
 use Rattle.usable_journals.proofs.Words.{is_eq-nat}
 use Rattle.usable_journals.proofs.WalkLaws.{OfEveryFront}
 

@@ -7,7 +7,7 @@ use Rattle.mdb_base.specs.declared.names.Key.{Key}
 use Rattle.mdb_base.specs.declared.rows.Put.{Put}
 use Rattle.mdb_base.specs.Names.{same_key}
 use Rattle.mdb_base.specs.Words.{each_of}
-use Rattle.mdb_base.proofs.NameLaws.{same_key-equal}
+use Rattle.mdb_base.proofs.ForCallers.{same_key-equal}
 use Rattle.fed_rules.specs.EngineLines.{has_row}
 use Rattle.journal_sums.specs.Versions.{key_cmp}
 use Rattle.usable_journals.specs.SiteTests.{greater_of}

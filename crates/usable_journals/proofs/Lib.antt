@@ -1,29 +1,30 @@
-pub mod Sets
-pub mod Recording
-pub mod Committing
-pub mod Reflected
-pub mod Words
-pub mod Readings
-pub mod SameLists
-pub mod SiteReflected
-pub mod EpochLaws
-pub mod NumberLaws
-pub mod OnceLaws
-pub mod RisingSites
-pub mod SumLaws
-pub mod PartedLaws
-pub mod DiskLaws
-pub mod WalkLaws
-pub mod FrontLaws
-pub mod FrontSteps
-pub mod SiteParts
-pub mod SumReads
-pub mod KeyLaws
-pub mod TicketOrder
-pub mod FrontOrder
-pub mod FrontFirst
-pub mod SiteRules
-pub mod NamedLaws
-pub mod SameSums
-pub mod FrontTaken
-pub mod FrontWhole
+pub mod ForCallers
+mod Sets
+mod Recording
+mod Committing
+mod Reflected
+mod Words
+mod Readings
+mod SameLists
+mod SiteReflected
+mod EpochLaws
+mod NumberLaws
+mod OnceLaws
+mod RisingSites
+mod SumLaws
+mod PartedLaws
+mod DiskLaws
+mod WalkLaws
+mod FrontLaws
+mod FrontSteps
+mod SiteParts
+mod SumReads
+mod KeyLaws
+mod TicketOrder
+mod FrontOrder
+mod FrontFirst
+mod SiteRules
+mod NamedLaws
+mod SameSums
+mod FrontTaken
+mod FrontWhole

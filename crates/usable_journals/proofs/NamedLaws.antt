@@ -6,9 +6,7 @@ use Rattle.mdb_base.specs.declared.names.Tid.{Tid}
 use Rattle.mdb_base.specs.declared.names.Tx.{Tx}
 use Rattle.mdb_base.specs.Names.{same_tx, tx_cmp}
 use Rattle.mdb_base.specs.Words.{some_of, those}
-use Rattle.mdb_base.proofs.BoolLaws.{or_false}
-use Rattle.mdb_base.proofs.NameLaws.{same_tx-equal, same_tx-refl}
-use Rattle.mdb_base.proofs.TestLaws.{or_assoc, some_reverse}
+use Rattle.mdb_base.proofs.ForCallers.{or_assoc, or_false, same_tx-equal, same_tx-refl, some_reverse}
 use Rattle.fed_rules.specs.declared.records.CoordRecord.{CoordRecord}
 use Rattle.fed_rules.specs.declared.records.CoordRecord.TheVariants.{Initiation, Commit, Abort, End, Checkpoint}
 use Rattle.fed_rules.specs.declared.records.SiteRecord.{SiteRecord}

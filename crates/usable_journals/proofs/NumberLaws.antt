@@ -7,7 +7,7 @@ use Rattle.std.specs.BTreeSet.{BTreeSet, contains}
 use Rattle.std.specs.List.{list_any}
 use Rattle.std.specs.Ordering.{is_eq, nat_cmp}
 use Rattle.order_laws.specs.Chains.{Distinct, In}
-use Rattle.mdb_base.proofs.BoolLaws.{is_true_both, is_true_parts, and_fails}
+use Rattle.mdb_base.proofs.ForCallers.{and_fails, is_true_both, is_true_parts}
 use Rattle.fed_rules.specs.declared.records.SiteRecord.{SiteRecord}
 use Rattle.fed_rules.specs.declared.records.SiteRecord.TheVariants.{Setup, Start, Prepared, Ended, Local, Checkpoint}
 use Rattle.fed_rules.specs.declared.sums.SiteSum.{SiteSum}

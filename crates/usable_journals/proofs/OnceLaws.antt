@@ -13,17 +13,14 @@ use Rattle.fed_rules.specs.declared.records.SiteRecord.{SiteRecord}
 use Rattle.fed_rules.specs.declared.records.SiteRecord.TheVariants.{Setup, Start, Prepared, Ended, Local, Checkpoint}
 use Rattle.fed_rules.specs.SiteRecords.{Held, doubt_of}
 use Rattle.fed_rules.specs.Usable.{IsLocalOf, IsPreparedOf, OnceEach, counted}
-use Rattle.order_laws.proofs.Alike.{same_of}
-use Rattle.mdb_base.proofs.NameLaws.{same_tx-equal, same_tx-refl}
-use Rattle.mdb_base.proofs.BoolLaws.{is_true_both, is_true_parts, and_fails}
-use Rattle.mdb_base.proofs.NameLaws.{same_tid-equal}
+use Rattle.order_laws.proofs.ForCallers.{same_of}
+use Rattle.mdb_base.proofs.ForCallers.{and_fails, is_true_both, is_true_parts, same_tid-equal, same_tx-equal, same_tx-refl, tid_ties}
 use Rattle.usable_journals.proofs.Reflected as Told
 use Rattle.usable_journals.specs.declared.site_once.Once.{Once}
 use Rattle.usable_journals.specs.SiteTests.{is_local_of, is_prepared_of, may_stand, once_each}
 use Rattle.usable_journals.specs.OnceTold.{IsGood, Takes, TakesAll, Tells}
 use Rattle.usable_journals.proofs.Recording.{Gets, GetsTx, drop_one, fronts, reverse_more, reverse_rest}
 use Rattle.usable_journals.proofs.Sets.{with_tid, with_tx}
-use Rattle.mdb_base.proofs.NameOrders.{tid_ties}
 
 some_held : (b : Bool) (held : Held) (o : Option Held) → is_some (cond b (Some held) o) ≡ cond b true (is_some o)
 some_held true held o = refl

@@ -8,9 +8,7 @@ use Rattle.mdb_base.specs.declared.names.Tid.{Tid}
 use Rattle.mdb_base.specs.declared.names.Tx.{Tx}
 use Rattle.mdb_base.specs.Names.{same_tx, tx_cmp}
 use Rattle.mdb_base.specs.Words.{Among, some_of}
-use Rattle.mdb_base.proofs.BoolLaws.{or_false, or_swapped}
-use Rattle.mdb_base.proofs.NameLaws.{same_tx-equal, same_tx-refl}
-use Rattle.mdb_base.proofs.TestLaws.{or_assoc, some_of-push, some_reverse}
+use Rattle.mdb_base.proofs.ForCallers.{or_assoc, or_false, or_swapped, same_tx-equal, same_tx-refl, some_of-push, some_reverse}
 use Rattle.fed_rules.specs.declared.records.SiteRecord.{SiteRecord}
 use Rattle.fed_rules.specs.declared.records.SiteRecord.TheVariants.{Setup, Start, Prepared, Ended, Local, Checkpoint}
 use Rattle.fed_rules.specs.declared.sums.SiteSum.{SiteSum}

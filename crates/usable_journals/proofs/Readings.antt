@@ -8,9 +8,8 @@ use Rattle.mdb_base.specs.declared.names.SiteTicket.{SiteTicket}
 use Rattle.mdb_base.specs.declared.names.Tid.{Tid}
 use Rattle.mdb_base.specs.Names.{same_tid, tid_before, tid_cmp}
 use Rattle.mdb_base.specs.Words.{Each, inserted, some_of, those}
-use Rattle.mdb_base.proofs.ListLaws.{each_filtered, each_inserted, each_map}
-use Rattle.mdb_base.proofs.NameLaws.{same_tid-equal}
-use Rattle.order_laws.proofs.Names.{ranks_tids}
+use Rattle.mdb_base.proofs.ForCallers.{each_filtered, each_inserted, each_map, same_tid-equal, tid_ties}
+use Rattle.order_laws.proofs.ForCallers.{ranks_tids}
 use Rattle.presumptions.specs.declared.Participant.{Participant}
 use Rattle.fed_rules.specs.declared.records.CoordRecord.{CoordRecord}
 use Rattle.fed_rules.specs.declared.records.CoordRecord.TheVariants.{Initiation, Commit, Abort, End, Checkpoint}
@@ -26,7 +25,6 @@ use Rattle.usable_journals.specs.Reads.{Reads, Says, begun, ended, ends_of, forg
 use Rattle.fed_rules.specs.Reopened.{commit_read, coord_sum_read, initiation_read}
 use Rattle.usable_journals.proofs.Committing.{and_parts, stays_true}
 use Rattle.usable_journals.proofs.Recording.{drop_one, end_at, ends_of as ends_in, ends_one, sum_reads}
-use Rattle.mdb_base.proofs.NameOrders.{tid_ties}
 use Rattle.usable_journals.proofs.Words.{or_second}
 
 -- ---- lists by rising attempt

@@ -10,7 +10,7 @@ use Rattle.mdb_base.specs.declared.names.Tid.{Tid}
 use Rattle.mdb_base.specs.declared.names.Tx.{Tx}
 use Rattle.mdb_base.specs.Words.{some_of, those}
 use Rattle.mdb_base.specs.Names.{same_tid, tid_cmp, tx_cmp}
-use Rattle.order_laws.proofs.Lists.{those_same}
+use Rattle.order_laws.proofs.ForCallers.{those_same}
 use Rattle.presumptions.specs.declared.Participant.{Participant}
 use Rattle.fed_rules.specs.declared.records.CoordRecord.{CoordRecord}
 use Rattle.fed_rules.specs.declared.records.CoordRecord.TheVariants.{Initiation, Commit, Abort, End, Checkpoint}
@@ -23,7 +23,7 @@ use Rattle.usable_journals.specs.declared.coord_order.Recorded.{Recorded}
 use Rattle.usable_journals.specs.CoordTests.{in_order, may_stand}
 use Rattle.usable_journals.specs.Recorded.{IsGood, Takes, TakesAll, Tells, end_unless, not_in}
 use Rattle.usable_journals.proofs.Sets.{with_tid, with_tx}
-use Rattle.mdb_base.proofs.BoolLaws.{and_fails}
+use Rattle.mdb_base.proofs.ForCallers.{and_fails}
 
 -- the set has the attempt, and else what it had
 abbrev pub Gets : BTreeSet Tid → BTreeSet Tid → Tid → Type 0

@@ -6,15 +6,9 @@ use Rattle.mdb_base.specs.declared.names.Tid.{Tid}
 use Rattle.mdb_base.specs.declared.names.Tx.{Tx}
 use Rattle.mdb_base.specs.Names.{same_site, same_tid, same_tx, tid_before}
 use Rattle.mdb_base.specs.Words.{Among, Each, each_of, some_of}
-use Rattle.mdb_base.proofs.ListLaws.{each_map}
-use Rattle.mdb_base.proofs.NameLaws.{same_tid-equal}
+use Rattle.mdb_base.proofs.ForCallers.{each_map, is_true_both, is_true_parts, same_site-equal, same_site-refl, same_tid-equal, same_tx-equal, same_tx-refl}
 use Rattle.order_laws.specs.Chains.{In}
-use Rattle.order_laws.proofs.Alike.{same_of}
-use Rattle.mdb_base.proofs.NameLaws.{same_tx-equal, same_tx-refl}
-use Rattle.mdb_base.proofs.BoolLaws.{is_true_both, is_true_parts}
-use Rattle.order_laws.proofs.Names.{ranks_tids}
-use Rattle.mdb_base.proofs.NameLaws.{same_site-equal, same_site-refl}
-use Rattle.order_laws.proofs.InLaws.{each_reverse}
+use Rattle.order_laws.proofs.ForCallers.{each_reverse, ranks_tids, same_of}
 use Rattle.presumptions.specs.declared.Participant.{Participant}
 use Rattle.presumptions.specs.declared.Protocol.{Protocol}
 use Rattle.presumptions.specs.declared.Protocol.TheVariants as By

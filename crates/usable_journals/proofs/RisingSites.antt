@@ -2,7 +2,7 @@
 use Rattle.std.proofs.Common.{ℕ, ◌+◌, ◌≤◌, ◌≡◌, List, [], ◌∷◌, ◌++◌, arith}
 use Rattle.mdb_base.specs.Rising.{IsRising}
 use Rattle.mdb_base.specs.Words.{Each}
-use Rattle.mdb_base.proofs.ListLaws.{append_each, each_map}
+use Rattle.mdb_base.proofs.ForCallers.{append_each, each_map}
 use Rattle.presumptions.specs.declared.Participant.{Participant}
 
 pub rising_push : (xs : List Participant) (x : Participant) (n : ℕ) → IsRising (λ (p : Participant). p.site.0) xs → Each (λ (p : Participant). p.site.0 ≤ n) xs → x.site.0 ≡ n + 1 →

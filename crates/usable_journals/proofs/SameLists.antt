@@ -13,9 +13,8 @@ use Rattle.mdb_base.specs.declared.names.SiteTicket.{SiteTicket}
 use Rattle.mdb_base.specs.declared.names.Tid.{Tid}
 use Rattle.mdb_base.specs.Names.{tid_before, tid_cmp}
 use Rattle.mdb_base.specs.Words.{Each}
-use Rattle.mdb_base.proofs.OptionLaws.{some_parts}
-use Rattle.order_laws.proofs.Names.{is_eq-tid_cmp, ranks_tids}
-use Rattle.mdb_base.proofs.NameLaws.{same_tid-refl}
+use Rattle.mdb_base.proofs.ForCallers.{less_before, same_tid-refl, some_parts}
+use Rattle.order_laws.proofs.ForCallers.{is_eq-tid_cmp, ranks_tids}
 use Rattle.presumptions.specs.declared.Participant.{Participant}
 use Rattle.fed_rules.specs.declared.sums.CommittedAttempt.{CommittedAttempt}
 use Rattle.fed_rules.specs.declared.sums.OpenAttempt.{OpenAttempt}
@@ -31,7 +30,6 @@ use Rattle.usable_journals.proofs.Committing.{stays_true}
 use Rattle.usable_journals.proofs.Readings.{committed_rise, open_rise}
 use Rattle.usable_journals.proofs.Recording.{read_behind, reverse_more, reverse_rest}
 use Rattle.usable_journals.proofs.Reflected.{member_back, member_there}
-use Rattle.mdb_base.proofs.NameOrders.{less_before}
 
 pub member_decides : (a b : Participant) → Decides (same_member a b) (a ≡ b)
 member_decides a b = (member_there b a, member_back b a)

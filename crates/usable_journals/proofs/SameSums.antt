@@ -6,8 +6,7 @@ use Rattle.std.proofs.lemmas.Slice.Eq.{slice_eq-Decides}
 use Rattle.mdb_base.specs.declared.names.Tid.{Tid}
 use Rattle.mdb_base.specs.declared.rows.Put.{Put}
 use Rattle.mdb_base.specs.Names.{same_tid}
-use Rattle.mdb_base.proofs.BoolLaws.{is_true_both, is_true_parts}
-use Rattle.mdb_base.proofs.NameLaws.{same_tid-equal, same_tid-refl}
+use Rattle.mdb_base.proofs.ForCallers.{is_true_both, is_true_parts, same_tid-equal, same_tid-refl}
 use Rattle.fed_rules.specs.SiteRecords.{Held}
 use Rattle.fed_rules.specs.declared.sums.SiteSum.{SiteSum}
 use Rattle.usable_journals.specs.SiteReads.{HasSameLists, HasSameMarks, IsSameHome, same_held, same_put}

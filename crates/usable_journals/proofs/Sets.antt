@@ -6,10 +6,8 @@ use Rattle.mdb_base.specs.declared.names.Tid.{Tid}
 use Rattle.mdb_base.specs.declared.names.Tx.{Tx}
 use Rattle.mdb_base.specs.Names.{same_tid, same_tx, tid_cmp, tx_cmp}
 use Rattle.mdb_base.specs.Words.{some_of}
-use Rattle.mdb_base.proofs.TestLaws.{some_of-push}
+use Rattle.mdb_base.proofs.ForCallers.{or_swapped, some_of-push, tid_ties, tx_ties}
 use Rattle.usable_journals.proofs.Words.{choice}
-use Rattle.mdb_base.proofs.BoolLaws.{or_swapped}
-use Rattle.mdb_base.proofs.NameOrders.{tid_ties, tx_ties}
 
 -- a name is put into a set
 pub with_tid : (tid q : Tid) (now old was : Bool) → now ≡ cond (is_eq (tid_cmp tid q)) true old → old ≡ was → now ≡ (same_tid tid q || was)

@@ -3,9 +3,7 @@ use Rattle.std.proofs.Common.{ℕ, ◌+◌, length, take, drop, get_or, ◌<◌,
 use Rattle.std.specs.Prelude.{max}
 use Rattle.std.proofs.lemmas.List.{reverse-append}
 use Rattle.mdb_base.specs.Words.{Each, each_of}
-use Rattle.mdb_base.proofs.ListLaws.{each_map}
-use Rattle.mdb_base.proofs.OptionLaws.{some_parts}
-use Rattle.mdb_base.proofs.BoolLaws.{is_true_both, is_true_parts}
+use Rattle.mdb_base.proofs.ForCallers.{each_map, is_true_both, is_true_parts, some_parts}
 use Rattle.fed_rules.specs.declared.records.SiteRecord.{SiteRecord}
 use Rattle.fed_rules.specs.declared.records.SiteRecord.TheVariants.{Setup, Start, Prepared, Ended, Local, Checkpoint}
 use Rattle.fed_rules.specs.Reopened.{first_of, home_by, oldest}

@@ -5,8 +5,7 @@ use Rattle.std.proofs.lemmas.List.{append-nil}
 use Rattle.std.specs.BTreeSet.{BTreeSet}
 use Rattle.mdb_base.specs.declared.names.Tid.{Tid}
 use Rattle.mdb_base.specs.Words.{Each, each_of, is_empty}
-use Rattle.mdb_base.proofs.ListLaws.{each_map, empty_means}
-use Rattle.mdb_base.proofs.BoolLaws.{is_true_both, is_true_parts}
+use Rattle.mdb_base.proofs.ForCallers.{each_map, empty_means, is_true_both, is_true_parts}
 use Rattle.fed_rules.specs.declared.records.SiteRecord.{SiteRecord}
 use Rattle.fed_rules.specs.declared.records.SiteRecord.TheVariants.{Setup, Start, Prepared, Ended, Local, Checkpoint}
 use Rattle.fed_rules.specs.SiteRecords.{Held}

@@ -9,9 +9,7 @@ use Rattle.fed_rules.specs.Reopened.{home_by, oldest}
 use Rattle.fed_rules.specs.SiteRecords.{Home}
 use Rattle.fed_rules.specs.SiteSums.{behind_sum, journal_sum, last_sum, site_sum, sum_behind, sum_with}
 use Rattle.fed_rules.specs.Usable.{AreBehind, AreSumsOfSome, AreWithin, LocalsOnTop, OfFronts, SumsFit, read}
-use Rattle.site_history.proofs.Journals.{whole_sum}
-use Rattle.site_history.proofs.OpenedSums.{all_in_order, all_read, all_sums, all_says}
-use Rattle.site_history.proofs.SameSays.{same_sum}
+use Rattle.site_history.proofs.ForCallers.{all_in_order, all_read, all_says, all_sums, same_sum, whole_sum}
 use Rattle.usable_journals.specs.SiteReads.{AllFit}
 
 -- a journal with a Checkpoint says the same with what stands below it

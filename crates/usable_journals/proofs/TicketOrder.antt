@@ -9,12 +9,9 @@ use Rattle.std.specs.Map.{keys_of, lookup, values_of}
 use Rattle.std.specs.BTreeMap.{is_at}
 use Rattle.std.specs.Ordering.{is_eq, nat_cmp}
 use Rattle.mdb_base.specs.Words.{Each}
-use Rattle.mdb_base.proofs.ListLaws.{append_each, each_map}
-use Rattle.mdb_base.proofs.NumberLaws.{nat_cmp-less}
-use Rattle.mdb_base.proofs.OptionLaws.{some_parts}
+use Rattle.mdb_base.proofs.ForCallers.{append_each, each_map, nat_cmp-less, some_parts}
 use Rattle.order_laws.specs.Chains.{Distinct, In}
-use Rattle.order_laws.proofs.Lists.{each_at, each_from, one_image}
-use Rattle.order_laws.proofs.Reversed.{in_reverse}
+use Rattle.order_laws.proofs.ForCallers.{each_at, each_from, in_reverse, one_image}
 use Rattle.fed_rules.specs.SiteRecords.{Held}
 use Rattle.usable_journals.specs.Fronts.{FallByTicket, IsByTicket, held_at}
 use Rattle.usable_journals.proofs.Words.{is_eq-nat}

@@ -13,15 +13,13 @@ use Rattle.mdb_base.specs.Words.{map_some, some_of, least, greatest, is_empty}
 use Rattle.fed_rules.specs.Runs.{Start, EngineLine, Access, Got, Wrote, Run, run_at, number}
 use Rattle.fed_rules.specs.Replies.{access_key, reads, has_read, spoilers, bad_keys, invalid, invalid_at, invalid_by, moved, moved_by, or_why, seal_stop}
 use Rattle.fed_rules.specs.EngineLines.{IsRight, IsStart}
-use Rattle.engine_laws.proofs.ValidationRuns.{or_why_none}
-use Rattle.engine_laws.proofs.ValidationTickets.{owned, unmoved}
-use Rattle.mdb_base.proofs.NameLaws.{same_key-refl}
+use Rattle.engine_laws.proofs.ForCallers.{or_why_none, owned, unmoved}
+use Rattle.mdb_base.proofs.ForCallers.{same_key-refl}
 use Rattle.run_book.specs.declared.counters.Counters.{Counters}
 use Rattle.run_book.specs.declared.rival.Rival.{Rival}
 use Rattle.run_book.specs.Keeps.{counters_after}
 use Rattle.run_book.specs.Rivals.{rival_by}
-use Rattle.run_book.proofs.Best.{TellsApart, least-found, least-empty}
-use Rattle.run_book.proofs.Members.{Is, is-those, those-is}
+use Rattle.run_book.proofs.ForCallers.{Is, TellsApart, is-those, least-empty, least-found, those-is}
 use Rattle.validation_engine.specs.declared.rule.Bad.{Bad}
 use Rattle.validation_engine.specs.Index.{Index, sealed_at, last_at}
 use Rattle.validation_engine.specs.Rule.{ended_since, or_rival, spoiler_of, lower_of, or_lower, least_bad_of, invalid_by_bad, moved_in, seal_stop_by}

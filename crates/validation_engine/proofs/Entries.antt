@@ -8,9 +8,8 @@ use Rattle.std.proofs.lemmas.Bool.{cond-true, cond-false, eqb-true}
 use Rattle.mdb_base.specs.declared.names.Key.{Key}
 use Rattle.mdb_base.specs.Names.{same_key}
 use Rattle.mdb_base.specs.Words.{map_some}
-use Rattle.mdb_base.proofs.NumberLaws.{is_eq-nat_cmp}
-use Rattle.mdb_base.proofs.RowLaws.{nat_eq-sym}
-use Rattle.site_tables.proofs.Looks.{get-lookup}
+use Rattle.mdb_base.proofs.ForCallers.{is_eq-nat_cmp, nat_eq-sym}
+use Rattle.site_tables.proofs.ForCallers.{get-lookup}
 use Rattle.validation_engine.specs.declared.index.Writers.{Writers}
 use Rattle.validation_engine.specs.Index.{Index, nobody, has_entry, with_key}
 

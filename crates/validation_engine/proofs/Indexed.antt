@@ -7,7 +7,7 @@ use Rattle.mdb_base.specs.declared.names.Key.{Key}
 use Rattle.mdb_base.specs.declared.names.Tid.{Tid}
 use Rattle.mdb_base.specs.Names.{same_tid, same_key}
 use Rattle.mdb_base.specs.Words.{some_of, map_some, or_else}
-use Rattle.mdb_base.proofs.NameLaws.{same_tid-equal, same_tid-refl, same_key-refl}
+use Rattle.mdb_base.proofs.ForCallers.{same_key-refl, same_tid-equal, same_tid-refl}
 use Rattle.fed_rules.specs.Runs.{Access, Run}
 use Rattle.fed_rules.specs.Replies.{writes, has_written}
 use Rattle.run_book.specs.declared.rival.Rival.{Rival}

@@ -1,7 +1,7 @@
-pub mod Entries
-pub mod Past
-pub mod Spoilers
-pub mod Bad
-pub mod Indexed
-pub mod Lines
-pub mod Restored
+mod Entries
+mod Past
+mod Spoilers
+mod Bad
+mod Indexed
+mod Lines
+mod Restored

@@ -11,8 +11,7 @@ use Rattle.mdb_base.specs.declared.replies.Reply.{Reply}
 use Rattle.mdb_base.specs.declared.replies.Reply.TheVariants.{Done, Value, Ticket}
 use Rattle.mdb_base.specs.declared.replies.Why.{Why}
 use Rattle.mdb_base.specs.Names.{same_key}
-use Rattle.mdb_base.proofs.NameLaws.{same_key-equal}
-use Rattle.mdb_base.proofs.BoolLaws.{cond_same}
+use Rattle.mdb_base.proofs.ForCallers.{cond_same, same_key-equal}
 use Rattle.fed_rules.specs.Runs.{Start, EngineLine, Begins, Acts, Takes, Seals, Refuses, Commits, Aborts, Access, Got, Wrote, Run, tid_of, begun, changed, run_at, counter, number, published, after}
 use Rattle.fed_rules.specs.Replies.{has_written, access_stop, ticket_stop, seal_stop, seal_number, granted, granted_by, rule, or_reply}
 use Rattle.fed_rules.specs.EngineLines.{IsFree, IsRightLine}
@@ -20,15 +19,13 @@ use Rattle.engine_contract.specs.declared.seal_err.SealErr.{SealErr}
 use Rattle.engine_contract.specs.declared.seal_err.SealErr.TheVariants as Err_is
 use Rattle.engine_contract.specs.Calls.{HidesNone, PassesRule}
 use Rattle.engine_contract.specs.Past.{EachPast}
-use Rattle.engine_laws.proofs.Runs.{tid_is}
-use Rattle.fed_rules.proofs.RunLines.{run_at_other, run_at_own}
+use Rattle.engine_laws.proofs.ForCallers.{tid_is}
+use Rattle.fed_rules.proofs.ForCallers.{run_at_other, run_at_own}
 use Rattle.run_book.specs.declared.counters.Counters.{Counters}
 use Rattle.run_book.specs.Held.{Held, held_in}
 use Rattle.run_book.specs.Book.{Book, begins, unbegins, grants, tickets, seals, unseals, drops, commits, table_in, taken_by}
 use Rattle.run_book.specs.Keeps.{Keeps, KeepsRoomy}
-use Rattle.run_book.proofs.Calls.{run_at-held}
-use Rattle.run_book.proofs.Carried.{calls_well, unbegins_well, unseals_well}
-use Rattle.run_book.proofs.Tables.{after-table}
+use Rattle.run_book.proofs.ForCallers.{after-table, calls_well, run_at-held, unbegins_well, unseals_well}
 use Rattle.validation_engine.specs.declared.index.Ended.{Ended}
 use Rattle.validation_engine.specs.declared.index.Change.TheVariants.{Sealed, Withdrawn, Committed}
 use Rattle.validation_engine.specs.declared.engine.ValidationEngine.{ValidationEngine}

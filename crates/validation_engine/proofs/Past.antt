@@ -8,16 +8,13 @@ use Rattle.mdb_base.specs.declared.names.Key.{Key}
 use Rattle.mdb_base.specs.declared.names.Tid.{Tid}
 use Rattle.mdb_base.specs.Names.{same_tid, same_key}
 use Rattle.mdb_base.specs.Words.{with_some}
-use Rattle.mdb_base.proofs.NameLaws.{same_tid-equal, same_tid-refl}
+use Rattle.mdb_base.proofs.ForCallers.{same_tid-equal, same_tid-refl}
 use Rattle.fed_rules.specs.Runs.{Start, EngineLine, Begins, Acts, Takes, Seals, Refuses, Commits, Aborts, Access, Got, Wrote, Run, tid_of, run_at, counter, number, committed_since}
 use Rattle.fed_rules.specs.Replies.{has_written, seal_number}
 use Rattle.fed_rules.specs.EngineLines.{IsRight, IsRightLine, IsStart, IsSealed}
 use Rattle.engine_laws.specs.Unended.{IsClear, has_write}
-use Rattle.engine_laws.proofs.Counted.{counted, counter_grows}
-use Rattle.engine_laws.proofs.Runs.{Own, begins, stays, got, wrote, takes, seals, own, at_line, number_is}
-use Rattle.engine_laws.proofs.ValidationRuns.{validation_sound}
-use Rattle.run_book.proofs.Ages.{own_or_other, through_line, age-le}
-use Rattle.run_book.proofs.Members.{Is}
+use Rattle.engine_laws.proofs.ForCallers.{Own, at_line, begins, counted, counter_grows, got, number_is, own, seals, stays, takes, validation_sound, wrote}
+use Rattle.run_book.proofs.ForCallers.{Is, age-le, own_or_other, through_line}
 use Rattle.validation_engine.specs.declared.index.Ended.{Ended}
 use Rattle.validation_engine.specs.Stands.{IsSealedWriter, ended_last, last_writer}
 

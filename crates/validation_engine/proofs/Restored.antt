@@ -11,17 +11,16 @@ use Rattle.mdb_base.specs.declared.rows.Put.{Put}
 use Rattle.mdb_base.specs.Names.{same_tid, same_key}
 use Rattle.mdb_base.specs.Rising.{IsRising}
 use Rattle.mdb_base.specs.Words.{Each, or_else}
-use Rattle.mdb_base.proofs.NameLaws.{same_key-equal, same_tid-equal, same_tid-refl}
+use Rattle.mdb_base.proofs.ForCallers.{same_key-equal, same_tid-equal, same_tid-refl}
 use Rattle.fed_rules.specs.declared.runs.Kept.{Kept}
 use Rattle.fed_rules.specs.Runs.{Run, restored, restored_at, run_at}
 use Rattle.fed_rules.specs.Replies.{has_written}
 use Rattle.fed_rules.specs.EngineLines.{AreApart, AllApart, IsStart, has_row}
 use Rattle.engine_contract.specs.Calls.{start_from}
-use Rattle.engine_laws.proofs.Conflicts.{written_rows}
-use Rattle.engine_laws.proofs.RunLines.{restored_one}
+use Rattle.engine_laws.proofs.ForCallers.{restored_one, written_rows}
 use Rattle.run_book.specs.declared.rival.Rival.{Rival}
 use Rattle.run_book.specs.Book.{started}
-use Rattle.run_book.proofs.Carried.{starts_well}
+use Rattle.run_book.proofs.ForCallers.{starts_well}
 use Rattle.validation_engine.specs.declared.index.Writers.{Writers}
 use Rattle.validation_engine.specs.declared.engine.ValidationEngine.{ValidationEngine}
 use Rattle.validation_engine.specs.Index.{Index, nobody, sealed_at, last_at, with_rows_sealed, with_restored}

@@ -7,16 +7,14 @@ use Rattle.mdb_base.specs.declared.names.Key.{Key}
 use Rattle.mdb_base.specs.declared.names.Tid.{Tid}
 use Rattle.mdb_base.specs.Names.{same_tid}
 use Rattle.mdb_base.specs.Words.{map_some, those, greatest}
-use Rattle.mdb_base.proofs.NameLaws.{same_tid-equal}
+use Rattle.mdb_base.proofs.ForCallers.{same_tid-equal}
 use Rattle.fed_rules.specs.Runs.{Start, EngineLine, Run, run_at, unended, committed_since, is_sealed, number}
 use Rattle.fed_rules.specs.Replies.{has_read, has_written, is_other, spoilers}
 use Rattle.fed_rules.specs.EngineLines.{IsRight, IsStart}
-use Rattle.engine_laws.proofs.Runs.{tid_is, number_is}
+use Rattle.engine_laws.proofs.ForCallers.{number_is, tid_is}
 use Rattle.run_book.specs.declared.rival.Rival.{Rival}
 use Rattle.run_book.specs.Rivals.{rival_by}
-use Rattle.run_book.proofs.Best.{greatest-is, greatest-none, greatest-empty}
-use Rattle.run_book.proofs.Members.{Is, is-append, is-append_left, is-append_right, is-those, those-is}
-use Rattle.run_book.proofs.Unended.{unended-is, is-unended}
+use Rattle.run_book.proofs.ForCallers.{Is, greatest-empty, greatest-is, greatest-none, is-append, is-append_left, is-append_right, is-those, is-unended, those-is, unended-is}
 use Rattle.validation_engine.specs.declared.index.Ended.{Ended}
 use Rattle.validation_engine.specs.Index.{Index, sealed_at, last_at}
 use Rattle.validation_engine.specs.Rule.{ended_since, or_rival}

@@ -1,3 +1,4 @@
-pub mod Members
-pub mod Sent
-pub mod SiteSays
+pub mod ForCallers
+mod Members
+mod Sent
+mod SiteSays

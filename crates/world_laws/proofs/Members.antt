@@ -11,7 +11,7 @@ use Rattle.mdb_base.specs.declared.replies.Reply.TheVariants as Reply_is
 use Rattle.mdb_base.specs.declared.replies.Why.TheVariants as Because
 use Rattle.mdb_base.specs.Names.{same_site}
 use Rattle.mdb_base.specs.Words.{Each, found, given, some_of, when}
-use Rattle.mdb_base.proofs.ListLaws.{each_filtered}
+use Rattle.mdb_base.proofs.ForCallers.{each_filtered}
 use Rattle.order_laws.specs.Search.{cycle_through}
 use Rattle.order_laws.specs.Tickets.{edge_between}
 use Rattle.presumptions.specs.declared.Decision.{Decision}
@@ -34,12 +34,12 @@ use Rattle.fed_rules.specs.Coord.{aborts, ack_counts, acked_while, again_while, 
 use Rattle.fed_rules.specs.CoordPast.{CoordHappening, CoordPast, Standing, Undecided, Decided, Gone, disk, is_open, has_acked, outstanding, participants, records, standing, trip, undecided_of}
 use Rattle.fed_rules.specs.CoordRecords.{commits, committed_of, named, required_of, coord_frame, is_nobody, coord_payload}
 use Rattle.fed_rules.specs.Policies.{Policy}
-use Rattle.site_history.proofs.Restarts.{each_found_from}
+use Rattle.site_history.proofs.ForCallers.{each_found_from}
 use Rattle.order_laws.specs.Chains.{In}
-use Rattle.order_laws.proofs.Lists.{each_from, those_in}
+use Rattle.order_laws.proofs.ForCallers.{each_from, those_in}
 use Rattle.presumptions.specs.Table.{acks}
 use Rattle.fed_rules.specs.Site_of.{due_site}
-use Rattle.coord_laws.proofs.MadeLines.{outstanding_site}
+use Rattle.coord_laws.proofs.ForCallers.{outstanding_site}
 
 -- the sites of a table
 abbrev pub sites_in : List Participant → List SiteId

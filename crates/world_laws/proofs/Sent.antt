@@ -6,11 +6,9 @@ use Rattle.mdb_base.specs.declared.names.SiteId.{SiteId}
 use Rattle.mdb_base.specs.declared.names.Tid.{Tid}
 use Rattle.mdb_base.specs.Names.{same_site}
 use Rattle.mdb_base.specs.Words.{Each, inserted, those}
-use Rattle.mdb_base.proofs.ListLaws.{each_map, append_each}
-use Rattle.mdb_base.proofs.NameLaws.{same_site-equal, same_site-refl}
-use Rattle.mdb_base.proofs.JoinLaws.{some_steps}
+use Rattle.mdb_base.proofs.ForCallers.{append_each, each_map, same_site-equal, same_site-refl, some_steps}
 use Rattle.order_laws.specs.Chains.{In}
-use Rattle.order_laws.proofs.Lists.{each_at, each_from}
+use Rattle.order_laws.proofs.ForCallers.{each_at, each_from}
 use Rattle.presumptions.specs.declared.Participant.{Participant}
 use Rattle.fed_rules.specs.declared.commands.Command.{Command}
 use Rattle.fed_rules.specs.declared.events.CoordEvent.{CoordEvent}
@@ -29,14 +27,8 @@ use Rattle.fed_rules.specs.Scenarios.{home_in, home_of, items_of, policy, protoc
 use Rattle.fed_rules.specs.SiteRecords.{Home}
 use Rattle.fed_rules.specs.Story.{Story, Happened, AtSite, AtCoordinator, Nowhere, coord_past, happens, sends_to, sent_from, sent_to, story_of, with_coordinator}
 use Rattle.fed_rules.specs.Site_of.{about}
-use Rattle.coord_laws.proofs.Begun.{begun_in}
-use Rattle.coord_laws.proofs.Made.{IsAsked}
-use Rattle.coord_laws.proofs.MadeLines.{coord_made}
-use Rattle.coord_laws.proofs.Past.{records_name}
-use Rattle.coord_laws.proofs.Sound.{IsBegun}
-use Rattle.commit_laws.proofs.Agreed.{agreed, begun_global}
-use Rattle.commit_laws.proofs.Links.{CoordCame, Linked, linked, story_goes_on}
-use Rattle.commit_laws.proofs.Silent.{declared_sends}
+use Rattle.coord_laws.proofs.ForCallers.{IsAsked, IsBegun, begun_in, coord_made, records_name}
+use Rattle.commit_laws.proofs.ForCallers.{CoordCame, Linked, agreed, begun_global, declared_sends, linked, story_goes_on}
 use Rattle.world_laws.specs.Messages.{MessagesAreOfBegunAttempts, MessagesAreOfDeclaredSites}
 use Rattle.world_laws.proofs.Members.{ComesFrom, NamesAmong, SendsAmong, line_among, member_among, sites_in}
 

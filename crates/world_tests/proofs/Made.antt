@@ -3,7 +3,7 @@ use Rattle.std.proofs.Common.{◌≡◌, ℕ, ◌<◌, ◌≤◌, List, [], ◌�
 use Rattle.mdb_base.specs.Words.{Each}
 use Rattle.fed_rules.specs.declared.commands.Stamped.{Stamped}
 use Rattle.trace_merge.specs.Traces.{StampsRise}
-use Rattle.trace_merge.proofs.Lists.{each_map}
+use Rattle.trace_merge.proofs.ForCallers.{each_map}
 
 -- the stamps rise, and none is greater than this one
 pub record MadeTo (lines : List Stamped) (stamp : ℕ) : Type 0 where

@@ -2,7 +2,7 @@ use Rattle.std.proofs.Common.{rules, tests, sym, ◌∙◌, ◌==◌}
 use Rattle.std.specs.Int.RustNames.{bit_and}
 use Rattle.std.proofs.lemmas.Iterator.{YieldsList-from_slice}
 use Rattle.std.proofs.lemmas.Iterator.Search.{all_from_yields_List}
-use Rattle.mdb_base.proofs.TestLaws.{each_of-list_all}
+use Rattle.mdb_base.proofs.ForCallers.{each_of-list_all}
 use Rattle.global_exec.specs.declared.policy.SiteSet.{SiteSet}
 use Rattle.conservative_take.proofs.have_no_bit.Goals as goal
 

@@ -1,7 +1,7 @@
 use Rattle.std.proofs.Common.{◌+◌, ◌<◌, ◌^◌, ◌∷◌, arith}
 use Rattle.fed_rules.specs.Runs.{Begins, counter}
-use Rattle.fed_rules.proofs.RunLines.{counter_begun}
-use Rattle.engine_contract.proofs.Lets.{begun_acts, wrote_acts, act_seals}
+use Rattle.fed_rules.proofs.ForCallers.{counter_begun}
+use Rattle.engine_contract.proofs.ForCallers.{act_seals, begun_acts, wrote_acts}
 use Rattle.engine_alone.proofs.write_alone.Goals as goal
 
 pub finish-requires : goal.finish-requires

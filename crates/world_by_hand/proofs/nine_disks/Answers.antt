@@ -1,7 +1,7 @@
 use Rattle.std.proofs.Common.{◌≡◌, length, sym, ap, subst, arith}
 use Rattle.std.proofs.lemmas.List.{length_push}
 use Rattle.mdb_base.specs.Words.{Each}
-use Rattle.mdb_base.proofs.EachLaws.{each_pushed}
+use Rattle.mdb_base.proofs.ForCallers.{each_pushed}
 use Rattle.journal_disk.specs.declared.mem_disk.MemDisk.{MemDisk}
 use Rattle.journal_disk.specs.MemDisk.{mem_size}
 use Rattle.world_by_hand.proofs.nine_disks.Goals as goal

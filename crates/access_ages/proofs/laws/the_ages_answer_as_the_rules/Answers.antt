@@ -1,6 +1,5 @@
 use Rattle.mdb_base.specs.declared.names.Engine.TheVariants.{Timestamp, Multiversion}
-use Rattle.engine_laws.proofs.TimestampRuns.{timestamp_by_age}
-use Rattle.engine_laws.proofs.MultiversionRuns.{multiversion_by_age}
+use Rattle.engine_laws.proofs.ForCallers.{multiversion_by_age, timestamp_by_age}
 use Rattle.access_ages.proofs.Rules.{stops_access, stops_reader}
 use Rattle.access_ages.proofs.TicketRules.{stops_taking}
 use Rattle.access_ages.proofs.laws.the_ages_answer_as_the_rules.Goals as goal

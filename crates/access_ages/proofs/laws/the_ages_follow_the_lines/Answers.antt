@@ -1,6 +1,5 @@
 use Rattle.mdb_base.specs.declared.names.Engine.TheVariants.{Timestamp, Multiversion}
-use Rattle.engine_laws.proofs.TimestampRuns.{timestamp_by_age}
-use Rattle.engine_laws.proofs.MultiversionRuns.{multiversion_by_age}
+use Rattle.engine_laws.proofs.ForCallers.{multiversion_by_age, timestamp_by_age}
 use Rattle.access_ages.proofs.Steps.{follows_begins, follows_calls, follows_starts, follows_unseals}
 use Rattle.access_ages.proofs.laws.the_ages_follow_the_lines.Goals as goal
 

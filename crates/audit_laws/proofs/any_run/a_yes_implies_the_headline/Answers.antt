@@ -1,7 +1,7 @@
 use Rattle.std.proofs.Common.{map}
 use Rattle.fed_rules.specs.declared.commands.Line.{Line}
-use Rattle.audit_rules.proofs.EachMerge.{audited}
-use Rattle.federation_laws.proofs.Declared.{declared-in}
+use Rattle.audit_rules.proofs.ForCallers.{audited}
+use Rattle.federation_laws.proofs.ForCallers.{declared-in}
 use Rattle.audit_laws.proofs.any_run.a_yes_implies_the_headline.Goals as goal
 
 pub returns : goal.returns

@@ -1,7 +1,7 @@
 use Rattle.std.proofs.Common.{true, false, refl}
 use Rattle.presumptions.specs.declared.Decision.TheVariants as Decided
 use Rattle.fed_rules.specs.declared.answers.Answer.TheVariants as Say
-use Rattle.mdb_base.proofs.BoolLaws.{and_false}
+use Rattle.mdb_base.proofs.ForCallers.{and_false}
 use Rattle.audit_lines.proofs.Joined.{one, two, tid_then, tid_joined, tid_number, and_true}
 use Rattle.audit_lines.proofs.tellings.answers_tell.Goals as goal
 

@@ -10,7 +10,7 @@ use Rattle.closing.specs.Steps.{give_of}
 use Rattle.fed_world.specs.Worlds.{HasRoom}
 use Rattle.closing.specs.Towards.{Fits}
 use Rattle.closing.proofs.Deliveries.{next_grows}
-use Rattle.fed_world.proofs.Faults.{failed_later}
+use Rattle.fed_world.proofs.ForCallers.{failed_later}
 use Rattle.closing.proofs.Grows.{taken_grows}
 use Rattle.closing.proofs.Towards.{extends_here, extends_one, fails_at, fails_within, fits_less, room_one, short_here, short_within}
 use Rattle.closing.proofs.World.{has_lines}

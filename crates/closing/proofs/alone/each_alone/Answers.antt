@@ -11,7 +11,7 @@ use Rattle.closing.specs.Alone.{all_alone}
 use Rattle.closing.specs.FreshTowards.{FailsToward}
 use Rattle.closing.specs.Towards.{Fits}
 use Rattle.closing.proofs.Deliveries.{one_grows}
-use Rattle.fed_world.proofs.Faults.{failed_later}
+use Rattle.fed_world.proofs.ForCallers.{failed_later}
 use Rattle.closing.proofs.Loops.{each_extends, each_more, next_begins, room_for}
 use Rattle.closing.proofs.Towards.{fails_within}
 use Rattle.closing.proofs.alone.each_alone.Goals as goal

@@ -6,7 +6,7 @@ use Rattle.fed_rules.specs.Plans.{IsScenario}
 use Rattle.fed_rules.specs.Sessions.{fresh}
 use Rattle.closing_laws.specs.Bound.{FinishingIsShort}
 use Rattle.fed_world.specs.FreshWorlds.{Stands}
-use Rattle.fed_world.proofs.Recalled.{recalls}
+use Rattle.fed_world.proofs.ForCallers.{recalls}
 use Rattle.closing.specs.Alone.{AllCommit, CanAllCommit, all_alone}
 use Rattle.closing.specs.FreshTowards.{FailsToward}
 use Rattle.closing.specs.Towards.{Fits}

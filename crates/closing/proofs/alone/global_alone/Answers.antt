@@ -14,7 +14,7 @@ use Rattle.closing.specs.Alone.{delivered_next}
 use Rattle.fed_world.specs.Worlds.{HasRoom}
 use Rattle.closing.specs.Towards.{Fits}
 use Rattle.closing.proofs.Deliveries.{all_delivered, delivers_grow, fuel_spent, delivery_begins, next_grows, delivery_rest}
-use Rattle.fed_world.proofs.Faults.{failed_later}
+use Rattle.fed_world.proofs.ForCallers.{failed_later}
 use Rattle.closing.proofs.Towards.{Extends, extends_here, extends_one, extends_twice, fails_at, fails_within, fits_less, room_one, short_here, short_within}
 use Rattle.closing.proofs.World.{has_lines}
 use Rattle.closing.proofs.alone.global_alone.Goals as goal

@@ -10,7 +10,7 @@ use Rattle.fed_rules.specs.Sessions.{fresh}
 use Rattle.fed_world.specs.Worlds.{HasRoom}
 use Rattle.closing.specs.Towards.{Fits}
 use Rattle.closing.proofs.Deliveries.{steps_grow}
-use Rattle.fed_world.proofs.Faults.{failed_later, told_later}
+use Rattle.fed_world.proofs.ForCallers.{failed_later, told_later}
 use Rattle.closing.proofs.Towards.{Extends, extends_here, extends_one, extends_twice, fails_at, fails_within, fits_less, on_failure_told, on_success, room_one}
 use Rattle.closing.proofs.alone.local_alone.Goals as goal
 

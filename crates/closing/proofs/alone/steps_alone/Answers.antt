@@ -6,7 +6,7 @@ use Rattle.fed_rules.specs.Closing as rules
 use Rattle.fed_rules.specs.Sessions.{fresh}
 use Rattle.fed_world.specs.FreshWorlds.{Stands}
 use Rattle.closing.proofs.Deliveries.{front_steps, steps_fit, steps_grow, steps_next}
-use Rattle.fed_world.proofs.Faults.{failed_later}
+use Rattle.fed_world.proofs.ForCallers.{failed_later}
 use Rattle.closing.proofs.Towards.{fails_at, fails_within, room_one}
 use Rattle.closing.proofs.alone.steps_alone.Goals as goal
 

@@ -5,7 +5,7 @@ use Rattle.fed_rules.specs.declared.commands.Command.{Command}
 use Rattle.fed_rules.specs.declared.commands.Command.TheVariants as Cmd
 use Rattle.fed_world.specs.Worlds.{Stands}
 use Rattle.closing.specs.Steps.{with_commands}
-use Rattle.fed_world.proofs.Faults.{failed_later}
+use Rattle.fed_world.proofs.ForCallers.{failed_later}
 use Rattle.closing.proofs.Loops.{each_extends, each_more, next_begins, room_for}
 use Rattle.closing.proofs.Towards.{extends_one, room_one, fails_at, fails_within}
 use Rattle.closing.proofs.carrying.carry_out.Goals as goal

@@ -4,7 +4,7 @@ use Rattle.fed_rules.specs.Closing.{for_each}
 use Rattle.fed_rules.specs.Scenarios.{sites}
 use Rattle.fed_rules.specs.Story.{story_in}
 use Rattle.fed_world.specs.Worlds.{Stands}
-use Rattle.fed_world.proofs.Recalled.{recalls}
+use Rattle.fed_world.proofs.ForCallers.{recalls}
 use Rattle.closing.specs.Steps.{asks_all}
 use Rattle.closing.specs.Towards.{FailsToward, Fits}
 use Rattle.closing.proofs.Grows.{asking_is, ask_all_grows}

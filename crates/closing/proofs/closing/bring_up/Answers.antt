@@ -4,7 +4,7 @@ use Rattle.closing.specs.Towards.{FailsToward, Fits}
 use Rattle.closing.proofs.Grows.{bring_up_made, bring_up_grows}
 use Rattle.closing.proofs.Towards.{on_failure, on_success, short_here}
 use Rattle.fed_rules.specs.Closing as rules
-use Rattle.fed_world.proofs.Recalled.{recalls}
+use Rattle.fed_world.proofs.ForCallers.{recalls}
 use Rattle.closing.proofs.closing.bring_up.Goals as goal
 
 pub returns-in_default-clause-failed : goal.returns-in_default-clause-failed

@@ -1,7 +1,7 @@
 use Rattle.std.proofs.Common.{map, refl, ◌∙◌}
 use Rattle.std.proofs.lemmas.Result.{err_from_is_err_and}
 use Rattle.fed_rules.specs.Closing.{closed_in}
-use Rattle.fed_world.proofs.Faults.{failed_later, told_later}
+use Rattle.fed_world.proofs.ForCallers.{failed_later, told_later}
 use Rattle.closing.proofs.Parts.{first, second, third, fourth, fifth, first_in, second_in, third_in, fourth_in, fifth_in, first_on, second_on, third_on, fourth_on, fifth_on}
 use Rattle.closing.proofs.Towards.{extends_here, fails_within, fits_less, on_failure, on_success}
 use Rattle.closing.proofs.closing.each_step.Goals as goal

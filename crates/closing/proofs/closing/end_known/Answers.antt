@@ -2,7 +2,7 @@ use Rattle.std.proofs.Common.{map, sym, subst, ◌∙◌, ap}
 use Rattle.fed_rules.specs.Closing as rules
 use Rattle.fed_rules.specs.Closing.{for_each}
 use Rattle.fed_world.specs.Worlds.{Stands}
-use Rattle.fed_world.proofs.Recalled.{recalls}
+use Rattle.fed_world.proofs.ForCallers.{recalls}
 use Rattle.closing.specs.Towards.{FailsToward, Fits}
 use Rattle.closing.proofs.Grows.{end_known_grows}
 use Rattle.closing.proofs.Towards.{on_failure, on_success, short_here}

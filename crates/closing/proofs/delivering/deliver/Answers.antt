@@ -7,7 +7,7 @@ use Rattle.fed_rules.specs.Closing.{deliver as delivered}
 use Rattle.closing.specs.Steps.{give_of}
 use Rattle.fed_world.specs.Worlds.{HasRoom}
 use Rattle.closing.specs.Towards.{Fits}
-use Rattle.fed_world.proofs.Faults.{told_later}
+use Rattle.fed_world.proofs.ForCallers.{told_later}
 use Rattle.closing.proofs.Grows.{taken_grows}
 use Rattle.closing.proofs.Towards.{extends_here, extends_one, fails_at, fails_within, fits_less, on_failure, on_success, room_one}
 use Rattle.closing.proofs.delivering.deliver.Goals as goal

@@ -9,7 +9,7 @@ use Rattle.fed_rules.specs.Closing as rules
 use Rattle.fed_rules.specs.Closing.{for_each}
 use Rattle.closing.specs.Steps.{asks_about, asks_all}
 use Rattle.closing.specs.Towards.{FailsToward, Fits}
-use Rattle.fed_world.proofs.Faults.{failed_later}
+use Rattle.fed_world.proofs.ForCallers.{failed_later}
 use Rattle.closing.proofs.Grows.{inquire_grows}
 use Rattle.closing.proofs.Loops.{each_extends, each_more, next_begins, room_for}
 use Rattle.closing.proofs.Towards.{Extends, fails_within}

@@ -9,7 +9,7 @@ use Rattle.fed_rules.specs.Closing as rules
 use Rattle.fed_rules.specs.Closing.{taken}
 use Rattle.fed_world.specs.Worlds.{HasRoom}
 use Rattle.closing.specs.Towards.{Fits}
-use Rattle.fed_world.proofs.Faults.{failed_later, told_later}
+use Rattle.fed_world.proofs.ForCallers.{failed_later, told_later}
 use Rattle.closing.proofs.Grows.{last_sends_grow, taken_grows}
 use Rattle.closing.proofs.Towards.{Extends, extends_here, extends_one, extends_twice, fails_at, fails_within, fits_less, on_failure, on_success, room_one}
 use Rattle.closing.proofs.exchanging.inquire.Goals as goal

@@ -9,7 +9,7 @@ use Rattle.fed_rules.specs.Closing.{deliver, last_sends}
 use Rattle.fed_world.specs.Worlds.{HasRoom, Stands}
 use Rattle.closing.specs.Steps.{deliver_all}
 use Rattle.closing.specs.Towards.{FailsToward, Fits}
-use Rattle.fed_world.proofs.Faults.{told_later}
+use Rattle.fed_world.proofs.ForCallers.{told_later}
 use Rattle.closing.proofs.Grows.{deliver_grows}
 use Rattle.closing.proofs.Loops.{each_extends}
 use Rattle.closing.proofs.Towards.{Extends, extends_here, extends_one, fails_at, fails_within, fits_less, on_failure, on_success, room_one}

@@ -5,7 +5,7 @@ use Rattle.mdb_base.specs.declared.names.Tid.{Tid}
 use Rattle.fed_world.specs.Worlds.{Stands}
 use Rattle.fed_rules.specs.Closing as rules
 use Rattle.closing.specs.Steps.{sent_for}
-use Rattle.fed_world.proofs.Faults.{failed_later}
+use Rattle.fed_world.proofs.ForCallers.{failed_later}
 use Rattle.closing.proofs.Grows.{send_again_grows}
 use Rattle.closing.proofs.Loops.{each_extends, each_more, next_begins, room_for}
 use Rattle.closing.proofs.Towards.{fails_within}

@@ -1,5 +1,5 @@
 use Rattle.std.proofs.Common.{ℕ, Option, IsSome, sym, subst}
-use Rattle.mdb_base.proofs.OptionLaws.{lent}
+use Rattle.mdb_base.proofs.ForCallers.{lent}
 use Rattle.coord_tables.proofs.Trees.{entry_set}
 use Rattle.coord_tables.proofs.begun.set.Goals as goal
 

@@ -1,6 +1,6 @@
 use Rattle.std.proofs.Common.{Option, Some, IsSome, sym, subst}
 use Rattle.mdb_base.specs.declared.names.Tid.{Tid}
-use Rattle.mdb_base.proofs.OptionLaws.{lent}
+use Rattle.mdb_base.proofs.ForCallers.{lent}
 use Rattle.coord_tables.proofs.Trees.{entry_set}
 use Rattle.coord_tables.proofs.committed.set.Goals as goal
 

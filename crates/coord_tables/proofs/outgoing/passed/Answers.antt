@@ -4,7 +4,7 @@ use Rattle.mdb_base.specs.Rising.{IsRising}
 use Rattle.fed_rules.specs.Site_of.{due_site}
 use Rattle.fed_rules.specs.declared.messages.Due.{Due}
 use Rattle.coord_tables.specs.Sending.{is_held, passed}
-use Rattle.mdb_base.proofs.RisingLaws.{those_rise}
+use Rattle.mdb_base.proofs.ForCallers.{those_rise}
 use Rattle.coord_tables.proofs.outgoing.passed.Goals as goal
 
 pub of_few-requires : goal.of_few-requires

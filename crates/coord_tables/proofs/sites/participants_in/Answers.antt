@@ -3,7 +3,7 @@ use Rattle.std.proofs.lemmas.List.{take_all}
 use Rattle.mdb_base.specs.Rising.{IsRising}
 use Rattle.presumptions.specs.declared.Participant.{Participant}
 use Rattle.fed_rules.specs.CoordPast.{participants_of, visits}
-use Rattle.mdb_base.proofs.RisingLaws.{those_rise}
+use Rattle.mdb_base.proofs.ForCallers.{those_rise}
 use Rattle.coord_tables.proofs.sites.participants_in.Goals as goal
 
 pub of-requires : goal.of-requires

@@ -1,7 +1,7 @@
 use Rattle.std.proofs.Common.{◌++◌, map, take, sym, subst}
 use Rattle.indexmap.specs.IndexMap.{values}
 use Rattle.ticket_graph.specs.Reach.{IsLowest, joined}
-use Rattle.global_exec.proofs.Firsts.{read_there}
+use Rattle.global_exec.proofs.ForCallers.{read_there}
 use Rattle.coord_tables.specs.declared.stages.Stage.{Stage}
 use Rattle.coord_tables.specs.Stages.{stage_tickets}
 use Rattle.coord_tables.proofs.Noting.{joined_next}

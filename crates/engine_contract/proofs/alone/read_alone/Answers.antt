@@ -1,6 +1,6 @@
 use Rattle.std.proofs.Common.{◌+◌, ◌<◌, ◌^◌, ◌∷◌, arith}
 use Rattle.fed_rules.specs.Runs.{Begins, counter}
-use Rattle.fed_rules.proofs.RunLines.{counter_begun}
+use Rattle.fed_rules.proofs.ForCallers.{counter_begun}
 use Rattle.engine_contract.proofs.Lets.{begun_acts, read_acts, act_seals}
 use Rattle.engine_contract.proofs.alone.read_alone.Goals as goal
 

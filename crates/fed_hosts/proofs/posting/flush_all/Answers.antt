@@ -1,7 +1,7 @@
 use Rattle.std.proofs.Common.{◌≡◌, ◌<◌, Some, length, slice_get, refl, arith}
 use Rattle.std.proofs.lemmas.Option.{slice_get_read, slice_get_within}
 use Rattle.scripted_link.specs.Outlets.{HasMovedOn}
-use Rattle.scripted_link.proofs.Waiting.{moves_on}
+use Rattle.scripted_link.proofs.ForCallers.{moves_on}
 use Rattle.fed_hosts.specs.declared.ports.Port.{Port}
 use Rattle.fed_hosts.proofs.CoordSame.{same_ports, same_written}
 use Rattle.fed_hosts.proofs.PortPlaces.{next_port}

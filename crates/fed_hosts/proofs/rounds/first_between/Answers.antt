@@ -1,7 +1,7 @@
 use Rattle.std.proofs.Common.{◌≡◌, ◌+◌, ◌-◌, ◌^◌, ◌<◌, min, Option, Some, inl, inr, length, slice_get, refl, subst, arith}
 use Rattle.std.specs.Prelude.{MatchOption}
 use Rattle.std.proofs.lemmas.Option.{slice_get_read}
-use Rattle.mdb_base.proofs.OptionLaws.{none_left}
+use Rattle.mdb_base.proofs.ForCallers.{none_left}
 use Rattle.fed_messages.specs.declared.Packet.{Packet}
 use Rattle.scripted_link.specs.Inlets.{empty_count}
 use Rattle.fed_hosts.specs.declared.ports.Port.{Port}

@@ -6,7 +6,7 @@ use Rattle.fed_rules.specs.declared.events.SiteEvent.TheVariants as Ev
 use Rattle.fed_rules.specs.Requests.{attempt, unless_begun}
 use Rattle.fed_rules.specs.Site.{site_line}
 use Rattle.fed_rules.specs.SitePast.{attempts_of, begins_tx}
-use Rattle.local_dbms.proofs.Fit.{recalled}
+use Rattle.local_dbms.proofs.ForCallers.{recalled}
 use Rattle.fed_hosts.proofs.Own.{unbegun_unless}
 use Rattle.fed_hosts.proofs.serving.is_spent.Goals as goal
 

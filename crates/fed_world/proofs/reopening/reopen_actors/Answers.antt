@@ -3,7 +3,7 @@ use Rattle.std.specs.Global.{Vec}
 use Rattle.journal_disk.specs.Disk.{Image}
 use Rattle.any_engine.specs.declared.engine.AnyEngine.{AnyEngine}
 use Rattle.local_dbms.specs.declared.dbms.LocalDbms.{LocalDbms}
-use Rattle.found_disks.proofs.Readings.{told_later}
+use Rattle.found_disks.proofs.ForCallers.{told_later}
 use Rattle.fed_world.specs.Reopening.{AreBack, AreOnDisks}
 use Rattle.fed_world.proofs.BackSteps.{coordinator_stays}
 use Rattle.fed_world.proofs.reopening.reopen_actors.Goals as goal

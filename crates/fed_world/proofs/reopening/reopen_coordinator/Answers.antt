@@ -9,11 +9,11 @@ use Rattle.fed_rules.specs.Plans.{IsScenario}
 use Rattle.fed_rules.specs.Resumed.{plan_of}
 use Rattle.fed_rules.specs.Scenarios.{protocols, protocols_in}
 use Rattle.journal_disk.specs.Disk.{Image}
-use Rattle.commit_laws.proofs.Declared.{members_rise}
+use Rattle.commit_laws.proofs.ForCallers.{members_rise}
 use Rattle.actor_store.specs.declared.errors.StepErr.{StepErr}
 use Rattle.actor_store.specs.declared.errors.StepErr.TheVariants as Step_err
 use Rattle.coord_core.specs.Found as Coordinator
-use Rattle.found_disks.proofs.Puts.{same_images}
+use Rattle.found_disks.proofs.ForCallers.{same_images}
 use Rattle.fed_world.proofs.BackSteps.{calm_step, coordinator_back, failed_step, first_image}
 use Rattle.fed_world.proofs.DeclaredSites.{members_ranged}
 use Rattle.fed_world.proofs.reopening.reopen_coordinator.Goals as goal

@@ -2,7 +2,7 @@ use Rattle.std.proofs.Common.{◌≡◌, ◌+◌, Err, Some, None, List, length,
 use Rattle.std.proofs.lemmas.Option.{slice_get-get_or}
 use Rattle.mdb_base.specs.declared.names.SiteId.{SiteId}
 use Rattle.mdb_base.specs.Words.{first_where}
-use Rattle.order_laws.proofs.InLaws.{slice_get-in}
+use Rattle.order_laws.proofs.ForCallers.{slice_get-in}
 use Rattle.fed_rules.specs.declared.scenario.Scenario.{Scenario}
 use Rattle.fed_rules.specs.declared.scenario.SiteLine.{SiteLine}
 use Rattle.fed_rules.specs.Plans.{IsScenario, declares}
@@ -11,7 +11,7 @@ use Rattle.any_engine.specs.declared.engine.AnyEngine.{AnyEngine}
 use Rattle.actor_store.specs.declared.errors.StepErr.{StepErr}
 use Rattle.actor_store.specs.declared.errors.StepErr.TheVariants as Step_err
 use Rattle.local_dbms.specs.declared.dbms.LocalDbms.{LocalDbms}
-use Rattle.found_disks.proofs.Puts.{same_images}
+use Rattle.found_disks.proofs.ForCallers.{same_images}
 use Rattle.fed_world.proofs.BackSteps.{calm_step, failed_step, first_stays, has_disk, is_here, step_back}
 use Rattle.fed_world.proofs.DeclaredSites.{has_line}
 use Rattle.fed_world.proofs.GoingBack.{AreBackTo, all_back, none_back, sites_same}

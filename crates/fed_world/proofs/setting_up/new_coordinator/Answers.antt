@@ -11,7 +11,7 @@ use Rattle.fed_rules.specs.Policies.{Policy}
 use Rattle.fed_rules.specs.Scenarios.{policy, protocols, protocols_in}
 use Rattle.journal_disk.specs.Disk.{Seen}
 use Rattle.conservative_take.specs.AnyPolicies.{policy_is}
-use Rattle.commit_laws.proofs.Declared.{members_rise}
+use Rattle.commit_laws.proofs.ForCallers.{members_rise}
 use Rattle.coord_core.specs.Stands.{IsEmptyDisk}
 use Rattle.global_manager.specs.Stands as Manager
 use Rattle.global_manager.specs.Stands.{IsDeclared}

@@ -1,6 +1,6 @@
 use Rattle.std.proofs.Common.{List, length, map, refl, sym, ap, ◌∙◌}
 use Rattle.std.proofs.lemmas.List.{length-map}
-use Rattle.fed_world.proofs.SeenDisks.{mapped_at}
+use Rattle.fed_world.proofs.ForCallers.{mapped_at}
 use Rattle.federation_run.specs.declared.seats.Seat.{Seat}
 use Rattle.federation_run.proofs.Closed.{alone_first, has_left}
 use Rattle.federation_run.proofs.Opened.{can_open_coord, can_seat_all}

@@ -1,8 +1,8 @@
 use Rattle.std.proofs.Common.{◌≡◌, ◌+◌, ◌++◌, ◌∷◌, [], take, map, arith, ap, sym, ◌∙◌, refl}
 use Rattle.std.proofs.lemmas.List.{map_push, length_push}
-use Rattle.mdb_base.proofs.JoinLaws.{all_push}
+use Rattle.mdb_base.proofs.ForCallers.{all_push}
 use Rattle.journal_disk.specs.Frames.{frame_in, frame_size, frames_size}
-use Rattle.journal_disk.proofs.Scan.{frames_size_push}
+use Rattle.journal_disk.proofs.ForCallers.{frames_size_push}
 use Rattle.frame_journal.specs.Records.{Entry, entries_at, entries_of, entry_frame}
 use Rattle.frame_journal.proofs.Entries.{entries_push, got, got_frame}
 use Rattle.frame_journal.proofs.ReadOn.{take_got, frames_size_take, reading_fails, reading_goes_on}

@@ -1,5 +1,5 @@
 use Rattle.std.proofs.Common.{false, slice_set, sym, ap, ◌∙◌}
-use Rattle.mdb_base.proofs.EachLaws.{each_get_or}
+use Rattle.mdb_base.proofs.ForCallers.{each_get_or}
 use Rattle.global_exec.specs.declared.progress.Progress.{Progress}
 use Rattle.global_exec.specs.Counted.{HasRoom, answered}
 use Rattle.global_exec.specs.Live.{is_at}

@@ -1,5 +1,5 @@
 use Rattle.std.proofs.Common.{◌<◌, length, sym, ap, arith}
-use Rattle.mdb_base.proofs.Registers.{next_of-within, next_of-past, program_register}
+use Rattle.mdb_base.proofs.ForCallers.{next_of-past, next_of-within, program_register}
 use Rattle.global_exec.proofs.following.next_behind.Goals as goal
 
 pub returns-then-done-steps : goal.returns-then-done-steps

@@ -2,7 +2,7 @@ use Rattle.std.proofs.Common.{◌++◌, false, Option, List, get_or, option_to_l
 use Rattle.std.proofs.lemmas.List.{take_all}
 use Rattle.mdb_base.specs.Rising.{IsRising}
 use Rattle.mdb_base.specs.Words.{found}
-use Rattle.mdb_base.proofs.EachLaws.{each_get_or}
+use Rattle.mdb_base.proofs.ForCallers.{each_get_or}
 use Rattle.fed_rules.specs.Site_of.{due_site}
 use Rattle.fed_rules.specs.declared.messages.Due.{Due}
 use Rattle.global_exec.specs.declared.progress.Progress.{Progress}

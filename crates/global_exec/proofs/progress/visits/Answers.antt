@@ -3,7 +3,7 @@ use Rattle.std.proofs.lemmas.Iterator.{YieldsList-from_slice}
 use Rattle.std.proofs.lemmas.Iterator.Search.{any_from_yields_List}
 use Rattle.mdb_base.specs.declared.acts.Step.{Step}
 use Rattle.mdb_base.specs.Names.{same_site}
-use Rattle.mdb_base.proofs.TestLaws.{some_of-list_any}
+use Rattle.mdb_base.proofs.ForCallers.{some_of-list_any}
 use Rattle.global_exec.proofs.progress.visits.Goals as goal
 
 pub returns : goal.returns

@@ -1,6 +1,6 @@
 use Rattle.std.proofs.Common.{sym, ◌∙◌}
-use Rattle.mdb_base.proofs.NameOrders.{txs_total, txs_exact}
-use Rattle.site_book.proofs.Maps.{get_look}
+use Rattle.mdb_base.proofs.ForCallers.{txs_exact, txs_total}
+use Rattle.site_book.proofs.ForCallers.{get_look}
 use Rattle.global_manager.proofs.programs.find.Goals as goal
 
 pub returns : goal.returns

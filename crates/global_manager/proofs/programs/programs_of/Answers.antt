@@ -2,11 +2,10 @@ use Rattle.std.proofs.Common.{◌≡◌, ◌<◌, ◌-◌, suc, List, [], ◌∷
 use Rattle.std.specs.FinMap.{from_entries, get}
 use Rattle.mdb_base.specs.declared.acts.Step.{Step}
 use Rattle.mdb_base.specs.declared.names.Tx.{Tx}
-use Rattle.mdb_base.proofs.PlaceLaws.{drop_all, drop_before}
+use Rattle.mdb_base.proofs.ForCallers.{drop_all, drop_before, txs_exact, txs_total}
 use Rattle.fed_rules.specs.declared.scenario.TxLine.{TxLine}
 use Rattle.mdb_base.specs.Names.{tx_cmp}
-use Rattle.mdb_base.proofs.NameOrders.{txs_total, txs_exact}
-use Rattle.site_book.proofs.Maps.{get_look}
+use Rattle.site_book.proofs.ForCallers.{get_look}
 use Rattle.global_manager.specs.Stands.{own_programs}
 use Rattle.global_manager.proofs.Lines.{noted_more}
 use Rattle.global_manager.proofs.programs.programs_of.Goals as goal

@@ -1,5 +1,5 @@
-use Rattle.mdb_base.proofs.NameOrders.{txs_total, txs_exact}
-use Rattle.site_book.proofs.Maps.{entries_gone}
+use Rattle.mdb_base.proofs.ForCallers.{txs_exact, txs_total}
+use Rattle.site_book.proofs.ForCallers.{entries_gone}
 use Rattle.global_manager.proofs.programs.take_out.Goals as goal
 
 pub returns : goal.returns

@@ -1,6 +1,6 @@
 use Rattle.std.proofs.Common.{[], ◌∷◌, ◌++◌, ◌∙◌, ap, sym, arith}
 use Rattle.fed_rules.specs.Disk.{Append, Sync, TrimFront}
-use Rattle.frame_journal.proofs.Trimmed.{ends_with_last}
+use Rattle.frame_journal.proofs.ForCallers.{ends_with_last}
 use Rattle.frame_journal.specs.Records.{as_written}
 use Rattle.journal_disk.specs.Disk.{Image, all_synced, appended}
 use Rattle.journal_disk.specs.Frames.{frame}

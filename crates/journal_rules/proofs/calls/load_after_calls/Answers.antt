@@ -2,9 +2,7 @@ use Rattle.std.proofs.Common.{◌≡◌, IsTrue, arith, ◌∙◌, sym, subst}
 use Rattle.std.proofs.lemmas.List.{nil_from_length}
 use Rattle.journal_disk.specs.Disk.{Image}
 use Rattle.frame_journal.specs.Journal.{Kept}
-use Rattle.frame_journal.proofs.Keeping.{new_is_kept}
-use Rattle.frame_journal.proofs.Noting.{on_ok}
-use Rattle.frame_journal.proofs.Sizes.{all_last}
+use Rattle.frame_journal.proofs.ForCallers.{all_last, new_is_kept, on_ok}
 use Rattle.journal_rules.specs.Calls.{MayBeMade, NoneFailed, bytes_after, disk_after}
 use Rattle.journal_rules.specs.Stands.{StandsFor}
 use Rattle.journal_rules.proofs.Journals.{ok_is_no_err}

@@ -1,5 +1,5 @@
 use Rattle.std.proofs.Common.{◌≡◌, ◌<◌, ◌++◌, length, drop, refl, ap, ◌∙◌, ◌⊎◌, inl, inr}
-use Rattle.order_laws.proofs.SortedLists.{none_left}
+use Rattle.order_laws.proofs.ForCallers.{zero_below_one}
 use Rattle.mdb_base.specs.Rows.{with_rows}
 use Rattle.journal_sums.proofs.Merging.{left_moved, merged_rises, merging_ends, one_left, right_moved, takes_both, takes_left, takes_right}
 use Rattle.journal_sums.proofs.versions.merge.Goals as goal
@@ -11,8 +11,8 @@ merged c =
     let right = c.loop-row.right.now in
     let ended : (length left < 1) ⊎ (length right < 1) =
     elim c.loop-row-test.branch [
-      | then-loop-row-test+else-not-is_empty w ↦ inr (none_left (length right) w.if-not-is_empty.ensures)
-      | else-loop-row-test w ↦ inl (none_left (length left) w.loop-row-test.ensures)
+      | then-loop-row-test+else-not-is_empty w ↦ inr (zero_below_one (length right) w.if-not-is_empty.ensures)
+      | else-loop-row-test w ↦ inl (zero_below_one (length left) w.loop-row-test.ensures)
     ] in
     c.in_ok-extend_from_slice-2.ensures.items ∙ (ap (λ rows. rows ++ right) c.in_ok-extend_from_slice.ensures.items
     ∙ merging_ends c.args.first.now c.args.later.now c.loop-row.rows.items left right c.loop-row.invariant ended)

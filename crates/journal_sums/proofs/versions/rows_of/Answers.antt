@@ -2,8 +2,7 @@ use Rattle.std.proofs.Common.{◌≡◌, sym, ap, ◌∙◌, subst}
 use Rattle.std.specs.BTreeMap.{get}
 use Rattle.std.proofs.lemmas.Result.{IfOk-weaker}
 use Rattle.mdb_base.specs.Rows.{value_in, with_rows}
-use Rattle.mdb_base.proofs.OptionLaws.{first_of}
-use Rattle.mdb_base.proofs.RowLaws.{value_in-with_rows}
+use Rattle.mdb_base.proofs.ForCallers.{first_of, value_in-with_rows}
 use Rattle.journal_sums.specs.Versions.{key_cmp, row_of}
 use Rattle.journal_sums.proofs.Merging.{Rise, merged_rises}
 use Rattle.journal_sums.proofs.VersionLaws.{row_kept}

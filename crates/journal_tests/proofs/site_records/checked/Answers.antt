@@ -1,5 +1,5 @@
 use Rattle.fed_rules.specs.declared.records.SiteRecord.TheVariants.{Checkpoint}
-use Rattle.frame_journal.proofs.Trimmed.{ends_with_last}
+use Rattle.frame_journal.proofs.ForCallers.{ends_with_last}
 use Rattle.site_journal.specs.Frames.{IsCheckpoint}
 use Rattle.journal_tests.proofs.site_records.checked.Goals as goal
 

@@ -6,7 +6,7 @@ use Rattle.fed_rules.specs.declared.records.SiteRecord.{SiteRecord}
 use Rattle.fed_rules.specs.declared.records.SiteRecord.TheVariants.{Setup}
 use Rattle.fed_rules.specs.SiteRecords.{Home}
 use Rattle.journal_sums.specs.Journals.{IsFirst, IsJournal}
-use Rattle.journal_sums.proofs.ReadingLaws.{journal_from}
+use Rattle.journal_sums.proofs.ForCallers.{journal_from}
 use Rattle.journal_tests.proofs.sums.sum_of.Goals as goal
 
 pub read_sum-requires : goal.read_sum-requires

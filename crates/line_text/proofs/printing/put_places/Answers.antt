@@ -1,4 +1,4 @@
-use Rattle.mdb_base.proofs.ResultLaws.{on_err_anyway}
+use Rattle.mdb_base.proofs.ForCallers.{on_err_anyway}
 use Rattle.line_text.proofs.Begun.{begins_with_the_front}
 use Rattle.line_text.proofs.printing.put_places.Goals as goal
 

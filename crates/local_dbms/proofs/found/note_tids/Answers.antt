@@ -2,7 +2,7 @@ use Rattle.std.proofs.Common.{◌≡◌, ◌<◌, ◌-◌, suc, cond, Some, ◌�
 use Rattle.mdb_base.specs.declared.names.Tid.{Tid}
 use Rattle.mdb_base.specs.Names.{same_tx}
 use Rattle.mdb_base.specs.Words.{some_of}
-use Rattle.mdb_base.proofs.PlaceLaws.{drop_all}
+use Rattle.mdb_base.proofs.ForCallers.{drop_all}
 use Rattle.local_dbms.specs.Found.{made_up}
 use Rattle.local_dbms.specs.Stands.{program_in}
 use Rattle.local_dbms.proofs.FoundLaws.{cond_or}

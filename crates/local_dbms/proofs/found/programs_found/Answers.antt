@@ -1,7 +1,7 @@
 use Rattle.std.proofs.Common.{◌≡◌, ◌<◌, ◌-◌, suc, cond, Option, Some, None, List, ◌∷◌, length, drop, sym, ap, ◌∙◌, arith}
 use Rattle.mdb_base.specs.declared.acts.Step.{Step}
 use Rattle.mdb_base.specs.Words.{some_of}
-use Rattle.mdb_base.proofs.PlaceLaws.{drop_all, drop_before}
+use Rattle.mdb_base.proofs.ForCallers.{drop_all, drop_before}
 use Rattle.fed_rules.specs.declared.records.SiteRecord.{SiteRecord}
 use Rattle.local_dbms.specs.Found.{found_programs, has_local, made_up}
 use Rattle.local_dbms.specs.Stands.{program_in}

@@ -1,6 +1,6 @@
 use Rattle.std.proofs.Common.{◌≡◌, ◌<◌, ◌-◌, suc, Option, List, ◌∷◌, length, drop, sym, ap, ◌∙◌, arith}
 use Rattle.mdb_base.specs.declared.acts.Step.{Step}
-use Rattle.mdb_base.proofs.PlaceLaws.{drop_all, drop_before}
+use Rattle.mdb_base.proofs.ForCallers.{drop_all, drop_before}
 use Rattle.fed_rules.specs.declared.scenario.TxLine.{TxLine}
 use Rattle.local_dbms.specs.Stands.{own_programs, program_in}
 use Rattle.local_dbms.proofs.Lines.{noted_more}

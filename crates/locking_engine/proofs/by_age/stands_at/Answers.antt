@@ -1,7 +1,7 @@
 use Rattle.std.proofs.Common.{length, refl, sym, ◌∙◌}
 use Rattle.std.proofs.lemmas.Bool.{ltb-false, ltb-true}
 use Rattle.std.proofs.lemmas.Option.{slice_get_read}
-use Rattle.mdb_base.proofs.Words.{item_at-slice_get}
+use Rattle.mdb_base.proofs.ForCallers.{item_at-slice_get}
 use Rattle.locking_engine.proofs.ByAge.{is_there, none_past}
 use Rattle.locking_engine.proofs.by_age.stands_at.Goals as goal
 

@@ -2,7 +2,7 @@ use Rattle.std.proofs.Common.{not, is_some, None, Some, Option, sym, ap, ◌∙�
 use Rattle.std.specs.Option.{option_copied_mut}
 use Rattle.std.proofs.lemmas.Result.{IfOk-weaker, on_ok_weaker, on_err_weaker}
 use Rattle.mdb_base.specs.declared.names.Tid.{Tid}
-use Rattle.run_book.proofs.HeldBy.{some-found}
+use Rattle.run_book.proofs.ForCallers.{some-found}
 use Rattle.locking_engine.specs.Holders.{place_of}
 use Rattle.locking_engine.specs.Lists.{holders_in}
 use Rattle.locking_engine.proofs.KeyLists.{order_changed, holders_same, entered_held, get-own}

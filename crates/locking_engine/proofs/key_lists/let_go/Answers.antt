@@ -1,6 +1,6 @@
 use Rattle.std.proofs.Common.{sym, ap, ◌∙◌}
 use Rattle.std.specs.Option.{option_copied_mut}
-use Rattle.run_book.proofs.HeldBy.{some-found}
+use Rattle.run_book.proofs.ForCallers.{some-found}
 use Rattle.locking_engine.proofs.KeyLists.{left_order, left_gone, nobody_left}
 use Rattle.locking_engine.proofs.key_lists.let_go.Goals as goal
 

@@ -1,6 +1,6 @@
 use Rattle.std.proofs.Common.{is_some, map, sym, ◌∙◌, ap}
 use Rattle.session_outputs.specs.Disks.{first_used, sizes_of}
-use Rattle.session_outputs.proofs.UsedDisks.{are_empty}
+use Rattle.session_outputs.proofs.ForCallers.{are_empty}
 use Rattle.mdb_top.specs.Streams.{Stream, stream}
 use Rattle.mdb_top.proofs.AuditLemmas.{verdict_ends}
 use Rattle.mdb_top.proofs.audit_call.audited.Goals as goal

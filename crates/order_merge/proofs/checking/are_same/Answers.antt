@@ -1,7 +1,7 @@
 use Rattle.std.proofs.Common.{true, subst, ◌≡◌}
 use Rattle.std.proofs.lemmas.Slice.Eq.{slice_eq-Decides}
 use Rattle.mdb_base.specs.Names.{same_tid}
-use Rattle.mdb_base.proofs.NameLaws.{same_tid-equal, same_tid-refl}
+use Rattle.mdb_base.proofs.ForCallers.{same_tid-equal, same_tid-refl}
 use Rattle.order_merge.proofs.checking.are_same.Goals as goal
 
 pub returns : goal.returns

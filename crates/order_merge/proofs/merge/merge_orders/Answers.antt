@@ -7,7 +7,7 @@ use Rattle.mdb_base.specs.Names.{same_tid, tid_before}
 use Rattle.order_laws.specs.Chains.{Distinct}
 use Rattle.order_laws.specs.Least.{without}
 use Rattle.order_laws.specs.Merge.{IsLeastOrder}
-use Rattle.order_laws.proofs.Orders.{acyclic_distinct}
+use Rattle.order_laws.proofs.ForCallers.{acyclic_distinct}
 use Rattle.order_merge.specs.Next.{IsNext}
 use Rattle.order_merge.proofs.Steps.{goes_on, less_left, ends}
 use Rattle.order_merge.proofs.merge.merge_orders.Goals as goal

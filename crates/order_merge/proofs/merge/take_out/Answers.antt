@@ -4,7 +4,7 @@ use Rattle.mdb_base.specs.declared.names.Tid.{Tid}
 use Rattle.mdb_base.specs.Names.{same_tid}
 use Rattle.order_laws.specs.Orders.{Before}
 use Rattle.order_laws.specs.Least.{without}
-use Rattle.order_laws.proofs.Least.{free_in_at}
+use Rattle.order_laws.proofs.ForCallers.{free_in_at}
 use Rattle.order_merge.proofs.InPlace.{not_yet, item_in}
 use Rattle.order_merge.proofs.merge.take_out.Goals as goal
 

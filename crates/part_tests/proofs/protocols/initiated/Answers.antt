@@ -1,7 +1,7 @@
 use Rattle.std.proofs.Common.{sym, subst}
 use Rattle.part_tests.specs.declared.protocols.TheConstants.{FIRST}
 use Rattle.protocol_table.specs.Attempts.{IsUndecided}
-use Rattle.protocol_table.proofs.Keeps.{initiated_undecided}
+use Rattle.protocol_table.proofs.ForCallers.{initiated_undecided}
 use Rattle.part_tests.proofs.protocols.initiated.Goals as goal
 
 pub returns : goal.returns

@@ -1,6 +1,6 @@
 use Rattle.std.proofs.Common.{◌≡◌, ◌<◌, length, get_or, is_some, Some, ap, sym, ◌∙◌}
 use Rattle.std.specs.List.{remove}
-use Rattle.mdb_base.proofs.Words.{item_at-within}
+use Rattle.mdb_base.proofs.ForCallers.{item_at-within}
 use Rattle.fed_rules.specs.declared.runs.Doubt.{Doubt}
 use Rattle.prepared_state.specs.Book.{count_before, doubt_about, others}
 use Rattle.prepared_state.proofs.ByTid.{others-place, others-absent, IsByTid-others}

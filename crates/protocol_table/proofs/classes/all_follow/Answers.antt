@@ -1,7 +1,7 @@
 use Rattle.std.proofs.Common.{rules, tests, sym, ◌∙◌}
 use Rattle.std.proofs.lemmas.Iterator.{YieldsList-from_slice}
 use Rattle.std.proofs.lemmas.Iterator.Search.{all_from_yields_List}
-use Rattle.mdb_base.proofs.TestLaws.{each_of-list_all}
+use Rattle.mdb_base.proofs.ForCallers.{each_of-list_all}
 use Rattle.presumptions.specs.declared.Participant.{Participant}
 use Rattle.fed_rules.specs.CoordRecords.{same_protocol}
 use Rattle.protocol_table.specs.declared.members.Member.{Member}

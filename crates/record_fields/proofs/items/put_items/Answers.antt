@@ -1,6 +1,6 @@
 use Rattle.std.proofs.Common.{◌≡◌, ◌++◌, ◌∷◌, ◌+◌, [], length, take, sym, ap, ◌∙◌, append_assoc, arith}
 use Rattle.std.proofs.lemmas.List.{length-append, take_all, take_more}
-use Rattle.mdb_base.proofs.JoinLaws.{all_push}
+use Rattle.mdb_base.proofs.ForCallers.{all_push}
 use Rattle.record_fields.specs.Items.{joined}
 use Rattle.record_fields.proofs.Joined.{joined_push, room_for}
 use Rattle.record_fields.proofs.items.put_items.Goals as goal

@@ -1,4 +1,4 @@
-use Rattle.mdb_base.proofs.JoinLaws.{two_pieces}
+use Rattle.mdb_base.proofs.ForCallers.{two_pieces}
 use Rattle.byte_numbers.specs.Numbers.{number}
 use Rattle.field_bytes.specs.Fields.{tid_bytes}
 use Rattle.record_fields.specs.Named.{writes}

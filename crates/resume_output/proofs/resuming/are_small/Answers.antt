@@ -1,7 +1,7 @@
 use Rattle.std.proofs.Common.{nat_le, ◌^◌, rules, tests, sym, ◌∙◌}
 use Rattle.std.proofs.lemmas.Iterator.{YieldsList-from_slice}
 use Rattle.std.proofs.lemmas.Iterator.Search.{all_from_yields_List}
-use Rattle.mdb_base.proofs.TestLaws.{each_of-list_all}
+use Rattle.mdb_base.proofs.ForCallers.{each_of-list_all}
 use Rattle.resume_output.proofs.Small.{each_small}
 use Rattle.resume_output.proofs.resuming.are_small.Goals as goal
 

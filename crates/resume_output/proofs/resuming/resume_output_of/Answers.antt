@@ -6,13 +6,11 @@ use Rattle.closing.specs.Towards.{BreaksAt, FailsToward, IsShort}
 use Rattle.fed_world.specs.declared.errors.WorldErr.{WorldErr}
 use Rattle.fed_world.specs.Faults.{FailedAs, faults_of}
 use Rattle.fed_world.specs.Lines.{AreLinesIn}
-use Rattle.fed_world.proofs.Recalled.{recalls}
+use Rattle.fed_world.proofs.ForCallers.{recalls}
 use Rattle.found_disks.specs.Finding.{found_in}
 use Rattle.found_disks.specs.Reading.{images_of}
-use Rattle.outputs.proofs.Sized.{all_sized}
-use Rattle.outputs.proofs.Outputs.{whole_weaker}
+use Rattle.outputs.proofs.ForCallers.{all_sized, stands_keeps, whole_weaker}
 use Rattle.resume_output.specs.Resumes.{GoesOnFromLeft, IsFoundOn, ResumesAs}
-use Rattle.outputs.proofs.Kept.{stands_keeps}
 use Rattle.resume_output.proofs.Small.{may_close}
 use Rattle.resume_output.proofs.Resumed.{answered_left, as_many_disks, breaks_behind, broken_answered, found_goes_on, if_broken, lines_fit, printed_front, refused_as, refused_left, short_left, stands_behind, whole_answered}
 use Rattle.resume_output.proofs.resuming.resume_output_of.Goals as goal

@@ -1,6 +1,6 @@
 use Rattle.std.proofs.Common.{◌≡◌, true, not, List, reverse, sym, ap, subst, ◌∙◌}
 use Rattle.std.proofs.lemmas.List.{reverse-reverse}
-use Rattle.mdb_base.proofs.OptionLaws.{some_parts}
+use Rattle.mdb_base.proofs.ForCallers.{some_parts}
 use Rattle.fed_rules.specs.declared.records.CoordRecord.{CoordRecord}
 use Rattle.fed_rules.specs.CoordPast.{journal}
 use Rattle.fed_rules.specs.Scenarios.{policy, protocols}

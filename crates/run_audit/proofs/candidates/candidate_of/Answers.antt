@@ -1,6 +1,6 @@
 use Rattle.std.proofs.Common.{Some, None, sym, ◌∙◌}
 use Rattle.fed_rules.specs.Story.{story_of}
-use Rattle.closing.proofs.Cores.{on_ok}
+use Rattle.closing.proofs.ForCallers.{on_ok}
 use Rattle.run_audit.proofs.Told.{candidate_by}
 use Rattle.run_audit.proofs.candidates.candidate_of.Goals as goal
 

@@ -3,7 +3,7 @@ use Rattle.mdb_base.specs.declared.replies.Edge.{Edge}
 use Rattle.fed_rules.specs.Scenarios.{protocols}
 use Rattle.fed_rules.specs.Story.{happens, story_of}
 use Rattle.audit_lines.specs.Compared.{TellsWrong}
-use Rattle.closing.proofs.Cores.{on_ok}
+use Rattle.closing.proofs.ForCallers.{on_ok}
 use Rattle.run_audit.proofs.Told.{none_told, unnamed_edges}
 use Rattle.run_audit.proofs.candidates.is_wrong.Goals as goal
 

@@ -3,7 +3,7 @@ use Rattle.fed_rules.specs.declared.scenario.Scenario.{Scenario}
 use Rattle.fed_rules.specs.declared.scenario.SiteLine.{SiteLine}
 use Rattle.fed_rules.specs.Sessions.{fresh}
 use Rattle.fed_rules.specs.Story.{story_of}
-use Rattle.closing.proofs.Cores.{on_ok}
+use Rattle.closing.proofs.ForCallers.{on_ok}
 use Rattle.run_audit.specs.Resting.{sites_rest}
 use Rattle.run_audit.proofs.Rests.{by_sites, not_rested}
 use Rattle.run_audit.proofs.ends.is_at_rest.Goals as goal

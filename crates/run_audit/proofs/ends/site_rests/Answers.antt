@@ -1,15 +1,15 @@
 use Rattle.std.proofs.Common.{◌&&◌, List, is_some, sym, ap, ap₂, subst, ◌∙◌}
 use Rattle.mdb_base.specs.declared.names.Tid.{Tid}
 use Rattle.mdb_base.specs.Words.{is_empty}
-use Rattle.commit_laws.proofs.Walks.{undeclared}
+use Rattle.commit_laws.proofs.ForCallers.{undeclared}
 use Rattle.fed_rules.specs.Closing as rules
 use Rattle.fed_rules.specs.SitePast.{live, records}
 use Rattle.fed_rules.specs.SiteRecords.{doubt_of}
 use Rattle.fed_rules.specs.Sessions.{fresh}
 use Rattle.fed_rules.specs.Story.{past_of, story_of}
-use Rattle.rules_laws.proofs.Declared.{its-site}
+use Rattle.rules_laws.proofs.ForCallers.{its-site}
 use Rattle.site_book.specs.Listing.{Lists}
-use Rattle.closing.proofs.Listed.{doubts_listed, live_listed}
+use Rattle.closing.proofs.ForCallers.{doubts_listed, live_listed}
 use Rattle.run_audit.proofs.Rests.{armed, nowhere, quiet, stopped}
 use Rattle.run_audit.proofs.ends.site_rests.Goals as goal
 

@@ -1,7 +1,7 @@
 use Rattle.std.proofs.Common.{Option, ap, map, subst, ◌∙◌, arith}
 use Rattle.fed_world.specs.FreshWorlds.{Stands}
 use Rattle.scenario_text.specs.Pieces.{lines}
-use Rattle.audit_text.proofs.Parts.{no_lines, nothing}
+use Rattle.audit_text.proofs.ForCallers.{no_lines, nothing}
 use Rattle.audit_rules.specs.declared.verdict.Verdict.{Verdict}
 use Rattle.run_audit.specs.Turns.{Turns, line_of}
 use Rattle.run_audit.proofs.Reached.{has_room, none_left, one_further}

@@ -3,7 +3,7 @@ use Rattle.fed_rules.specs.declared.report.Report.{Report}
 use Rattle.fed_rules.specs.Story.{story_of}
 use Rattle.session_report.specs.InOrder.{IsReportIn}
 use Rattle.scenario_text.specs.Pieces.{lines}
-use Rattle.closing.proofs.Cores.{on_ok}
+use Rattle.closing.proofs.ForCallers.{on_ok}
 use Rattle.run_audit.proofs.Ordered.{open_differs, order_differs, report_decides}
 use Rattle.run_audit.proofs.turns.at_order.Goals as goal
 

@@ -5,8 +5,7 @@ use Rattle.fed_rules.specs.declared.scenario.Scenario.{Scenario}
 use Rattle.fed_rules.specs.Story.{story_of}
 use Rattle.fed_rules.specs.Sessions.{fresh}
 use Rattle.fed_world.specs.FreshWorlds.{Stands}
-use Rattle.fed_world.proofs.FreshWorlds.{some_session}
-use Rattle.fed_world.proofs.Recalled.{recalls}
+use Rattle.fed_world.proofs.ForCallers.{recalls, some_session}
 use Rattle.audit_rules.specs.Faults.{names_declared}
 use Rattle.run_audit.proofs.Due.{checked, declared_fault, next_line, undeclared_fault}
 use Rattle.run_audit.proofs.turns.check_line.Goals as goal

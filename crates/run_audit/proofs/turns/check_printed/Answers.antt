@@ -3,7 +3,7 @@ use Rattle.mdb_base.specs.declared.names.Tid.{Tid}
 use Rattle.fed_rules.specs.Sessions.{fresh}
 use Rattle.fed_rules.specs.Story.{story_of}
 use Rattle.fed_world.specs.FreshWorlds.{Stands}
-use Rattle.fed_world.proofs.Recalled.{recalls}
+use Rattle.fed_world.proofs.ForCallers.{recalls}
 use Rattle.scenario_text.specs.Pieces.{lines}
 use Rattle.audit_rules.specs.declared.verdict.What.{What}
 use Rattle.audit_rules.specs.Agreement as agreement

@@ -3,7 +3,7 @@ use Rattle.std.proofs.lemmas.Map.Steps.{set_value_same}
 use Rattle.std.proofs.lemmas.Result.{on_ok_weaker, on_err_weaker}
 use Rattle.std.specs.Map.{lookup, set_value}
 use Rattle.std.specs.Option.{option_copied_mut}
-use Rattle.mdb_base.proofs.OptionLaws.{lent}
+use Rattle.mdb_base.proofs.ForCallers.{lent}
 use Rattle.run_book.specs.Book.{granted_to}
 use Rattle.run_book.specs.Held.{Held}
 use Rattle.run_book.specs.Named.{by_tid, same_name}

@@ -3,7 +3,7 @@ use Rattle.fed_rules.specs.declared.scenario.Scenario.{Scenario}
 use Rattle.session_outputs.specs.declared.threaded.Ended.{Ended}
 use Rattle.session_outputs.specs.Ends.{ComesToEnd}
 use Rattle.session_outputs.specs.Makes.{made_scenario}
-use Rattle.outputs.proofs.Sized.{all_sized}
+use Rattle.outputs.proofs.ForCallers.{all_sized}
 use Rattle.session_outputs.proofs.MakeLemmas.{made_broken, made_output, made_stopped}
 use Rattle.session_outputs.proofs.UsedDisks.{are_empty}
 use Rattle.session_outputs.proofs.made_output.made_output_of.Goals as goal

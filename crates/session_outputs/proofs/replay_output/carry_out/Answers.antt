@@ -6,9 +6,8 @@ use Rattle.fed_rules.specs.declared.commands.Command.TheVariants as Cmd
 use Rattle.fed_rules.specs.Sessions.{fresh}
 use Rattle.fed_world.specs.FreshWorlds.{Stands}
 use Rattle.closing.specs.Steps.{with_commands}
-use Rattle.fed_world.proofs.Faults.{failed_later}
-use Rattle.closing.proofs.Loops.{each_extends, each_more, next_begins, room_for}
-use Rattle.closing.proofs.Towards.{extends_one, room_one, fails_at, fails_within, short_here}
+use Rattle.fed_world.proofs.ForCallers.{failed_later}
+use Rattle.closing.proofs.ForCallers.{each_extends, each_more, extends_one, fails_at, fails_within, next_begins, room_for, room_one, short_here}
 use Rattle.session_outputs.proofs.replay_output.carry_out.Goals as goal
 
 -- some command

@@ -7,16 +7,14 @@ use Rattle.fed_world.specs.declared.errors.WorldErr.{WorldErr}
 use Rattle.fed_world.specs.SettingUp.{FailsToStart}
 use Rattle.fed_world.specs.Faults.{FailedAs}
 use Rattle.fed_world.specs.FreshWorlds.{Stands}
-use Rattle.fed_world.proofs.Faults.{failed_later}
-use Rattle.fed_world.proofs.Recalled.{recalls}
+use Rattle.fed_world.proofs.ForCallers.{failed_later, recalls}
 use Rattle.closing.specs.FreshTowards.{FailsToward}
-use Rattle.closing.proofs.World.{nine}
+use Rattle.closing.proofs.ForCallers.{nine}
 use Rattle.session_outputs.specs.Plays.{closed_with}
 use Rattle.session_outputs.specs.Sessions.{commands_of}
-use Rattle.outputs.proofs.Sized.{all_sized}
+use Rattle.outputs.proofs.ForCallers.{all_sized, whole_weaker}
 use Rattle.session_outputs.proofs.Holding.{stands_hold_all, stands_hold_frames, starts_broken, starts_short}
 use Rattle.session_outputs.proofs.OutputLemmas.{broken_output, front_before, no_lines, play_breaks, short_output, whole_output}
-use Rattle.outputs.proofs.Outputs.{whole_weaker}
 use Rattle.session_outputs.proofs.PlayLemmas.{can_play, front_heard, lines_fit, session_commands, session_heard}
 use Rattle.session_outputs.proofs.Rights.{story_right}
 use Rattle.session_outputs.proofs.Unrefused.{unrefused}

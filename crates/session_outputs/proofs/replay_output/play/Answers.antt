@@ -2,9 +2,8 @@ use Rattle.std.proofs.Common.{map, refl}
 use Rattle.std.proofs.lemmas.Result.{err_from_is_err_and}
 use Rattle.fed_rules.specs.Sessions.{fresh}
 use Rattle.closing.specs.Steps.{with_commands}
-use Rattle.fed_world.proofs.Faults.{told_later}
-use Rattle.closing.proofs.FreshTowards.{fresh_can_close}
-use Rattle.closing.proofs.Towards.{extends_here, fails_within, on_failure, on_success}
+use Rattle.fed_world.proofs.ForCallers.{told_later}
+use Rattle.closing.proofs.ForCallers.{extends_here, fails_within, fresh_can_close, on_failure, on_success}
 use Rattle.session_outputs.specs.Plays.{closed_with}
 use Rattle.session_outputs.proofs.PlayLemmas.{can_fit, closed_on, with_extends}
 use Rattle.session_outputs.proofs.replay_output.play.Goals as goal

@@ -2,12 +2,11 @@ use Rattle.std.proofs.Common.{List, map, sym, subst}
 use Rattle.fed_rules.specs.declared.commands.Line.{Line}
 use Rattle.fed_rules.specs.Sessions.{fresh}
 use Rattle.host_laws.specs.Merged.{commands_of}
-use Rattle.fed_world.proofs.Recalled.{recalls}
+use Rattle.fed_world.proofs.ForCallers.{recalls}
 use Rattle.session_outputs.specs.declared.threaded.Ended.{Ended}
 use Rattle.session_outputs.specs.Ends.{ComesToEnd}
 use Rattle.session_outputs.specs.Runs.{host_commands, run_commands}
-use Rattle.outputs.proofs.Sized.{all_sized}
-use Rattle.outputs.proofs.Outputs.{whole_weaker}
+use Rattle.outputs.proofs.ForCallers.{all_sized, whole_weaker}
 use Rattle.session_outputs.proofs.RunLemmas.{Stops, before, ended_output, ended_printable, failed_output, off_breaks, off_fit, stopped_breaks, stopped_fit, stopped_lines}
 use Rattle.session_outputs.proofs.UsedDisks.{are_empty}
 use Rattle.session_outputs.proofs.run_output.run_output_of.Goals as goal

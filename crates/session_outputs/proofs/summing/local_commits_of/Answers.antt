@@ -1,5 +1,5 @@
 use Rattle.std.proofs.Common.{◌<◌, length, arith}
-use Rattle.mdb_base.proofs.PlaceLaws.{slice_get-there}
+use Rattle.mdb_base.proofs.ForCallers.{slice_get-there}
 use Rattle.fed_rules.specs.Scenarios.{sites}
 use Rattle.fed_rules.specs.Story.{past_of}
 use Rattle.local_dbms.specs.Stands.{own_programs}

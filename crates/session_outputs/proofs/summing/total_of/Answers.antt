@@ -1,11 +1,11 @@
 use Rattle.std.proofs.Common.{◌%◌, ◌^◌, ◌<◌, ◌∙◌, List, length, ap, arith}
 use Rattle.mdb_base.specs.declared.rows.Put.{Put}
-use Rattle.mdb_base.proofs.PlaceLaws.{slice_get-there}
-use Rattle.rules_laws.proofs.Declared.{its-site}
+use Rattle.mdb_base.proofs.ForCallers.{slice_get-there}
+use Rattle.rules_laws.proofs.ForCallers.{its-site}
 use Rattle.fed_rules.specs.Scenarios.{sites}
 use Rattle.fed_rules.specs.Story.{past_of, story_of}
 use Rattle.local_dbms.specs.Stands.{own_programs}
-use Rattle.fed_world.proofs.SessionParts.{declared_table}
+use Rattle.fed_world.proofs.ForCallers.{declared_table}
 use Rattle.report_text.specs.Summaries.{rows_total}
 use Rattle.session_outputs.proofs.Totals.{one_more_total, table_given}
 use Rattle.session_outputs.proofs.summing.total_of.Goals as goal

@@ -3,10 +3,8 @@ use Rattle.std.proofs.lemmas.Result.{err_from_is_err_and}
 use Rattle.fed_rules.specs.Closing.{closed}
 use Rattle.fed_rules.specs.Plans.{IsScenario}
 use Rattle.fed_rules.specs.Sessions.{fresh}
-use Rattle.fed_world.proofs.Faults.{told_later}
-use Rattle.closing.proofs.Deliveries.{finished_grows}
-use Rattle.closing.proofs.Towards.{extends_here, fails_within, on_failure, on_success}
-use Rattle.closing.proofs.World.{has_lines}
+use Rattle.fed_world.proofs.ForCallers.{told_later}
+use Rattle.closing.proofs.ForCallers.{extends_here, fails_within, finished_grows, has_lines, on_failure, on_success}
 use Rattle.session_outputs.specs.Runs.{run_commands}
 use Rattle.session_outputs.proofs.Ending.{can_close, can_finish}
 use Rattle.session_outputs.proofs.PlayLemmas.{closed_on}

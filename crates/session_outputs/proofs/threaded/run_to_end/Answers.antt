@@ -5,8 +5,7 @@ use Rattle.closing.specs.FreshTowards.{FailsToward}
 use Rattle.federation_run.specs.declared.errors.RunErr.{RunErr}
 use Rattle.federation_run.specs.Running.{EndsBadly}
 use Rattle.fed_world.specs.declared.errors.WorldErr.{WorldErr}
-use Rattle.closing.proofs.Towards.{breaks_since}
-use Rattle.closing.proofs.World.{nine}
+use Rattle.closing.proofs.ForCallers.{breaks_since, nine}
 use Rattle.session_outputs.specs.Runs.{host_commands, run_commands}
 use Rattle.session_outputs.proofs.Ending.{has_ended, of_hosts}
 use Rattle.session_outputs.proofs.threaded.run_to_end.Goals as goal

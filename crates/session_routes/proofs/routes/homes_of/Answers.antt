@@ -1,6 +1,6 @@
 use Rattle.std.proofs.Common.{◌≡◌, ◌<◌, ◌-◌, suc, Option, List, ◌∷◌, length, drop, sym, ap, ◌∙◌, arith}
 use Rattle.mdb_base.specs.declared.names.SiteId.{SiteId}
-use Rattle.mdb_base.proofs.PlaceLaws.{drop_all, drop_before}
+use Rattle.mdb_base.proofs.ForCallers.{drop_all, drop_before}
 use Rattle.fed_rules.specs.declared.scenario.TxLine.{TxLine}
 use Rattle.session_routes.specs.Routes.{home_in, site_by}
 use Rattle.session_routes.proofs.Homes.{noted_more}

@@ -1,6 +1,6 @@
 use Rattle.std.proofs.Common.{List, String, Global, is_some, map, string_bytes, sym, ap, ◌∙◌}
 use Rattle.mdb_top.specs.Verdicts.{asked_of_folder}
-use Rattle.mdb_top.proofs.Asking.{nothing_resumes}
+use Rattle.mdb_top.proofs.ForCallers.{nothing_resumes}
 use Rattle.session_tests.proofs.tests.called.Goals as goal
 
 -- words that name no folder don't ask to go on

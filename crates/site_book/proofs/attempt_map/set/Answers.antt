@@ -1,6 +1,6 @@
 use Rattle.std.proofs.Common.{Option, Some, IsSome, cond, sym, ap, subst, ◌∙◌}
 use Rattle.std.specs.Map.{lookup}
-use Rattle.mdb_base.proofs.OptionLaws.{lent}
+use Rattle.mdb_base.proofs.ForCallers.{lent}
 use Rattle.site_book.specs.declared.attempt_map.Name.{Name}
 use Rattle.site_book.specs.declared.progress.Progress.{Progress}
 use Rattle.site_book.specs.Named.{name_of, same_name}

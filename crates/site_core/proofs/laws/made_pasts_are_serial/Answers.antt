@@ -1,7 +1,7 @@
 use Rattle.std.proofs.Common.{ap, sym}
 use Rattle.fed_rules.specs.SiteSums.{start_from}
 use Rattle.site_history.specs.SiteOrders.{IsSerialPast}
-use Rattle.site_history.proofs.SerialPasts.{pasts_serial}
+use Rattle.site_history.proofs.ForCallers.{pasts_serial}
 use Rattle.site_core.proofs.MadeLaws.{made_goes_on, made_right, made_says_all, made_starts, made_tabled, of_made_once}
 use Rattle.site_core.proofs.laws.made_pasts_are_serial.Goals as goal
 

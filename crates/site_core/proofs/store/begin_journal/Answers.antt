@@ -3,8 +3,7 @@ use Rattle.fed_rules.specs.Disk.{Append, Sync, after_call, empty_disk}
 use Rattle.fed_rules.specs.SiteRecords.{site_frame}
 use Rattle.actor_store.specs.declared.store.Break.TheVariants.{Failed}
 use Rattle.site_core.specs.Store.{KeepsBehind}
-use Rattle.actor_store.proofs.EndsLaws.{ends_early, ends_more}
-use Rattle.actor_store.proofs.FromLaws.{from_failed, from_kept}
+use Rattle.actor_store.proofs.ForCallers.{ends_early, ends_more, from_failed, from_kept}
 use Rattle.site_core.proofs.NewStore.{broken_holds, never_trips}
 use Rattle.site_core.proofs.store.begin_journal.Goals as goal
 

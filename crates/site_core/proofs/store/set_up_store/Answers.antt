@@ -2,7 +2,7 @@ use Rattle.std.proofs.Common.{None, arith}
 use Rattle.fed_rules.specs.Disk.{empty_disk}
 use Rattle.fed_rules.specs.declared.records.SiteRecord.TheVariants as Rec
 use Rattle.site_journal.specs.Frames.{frame_has_size}
-use Rattle.actor_store.proofs.FromLaws.{from_kept}
+use Rattle.actor_store.proofs.ForCallers.{from_kept}
 use Rattle.site_core.proofs.NewStore.{keeps_new}
 use Rattle.site_core.proofs.SetUpLaws.{setup_fits}
 use Rattle.site_core.proofs.store.set_up_store.Goals as goal

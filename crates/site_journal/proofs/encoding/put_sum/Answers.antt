@@ -1,4 +1,4 @@
-use Rattle.mdb_base.proofs.JoinLaws.{two_pieces}
+use Rattle.mdb_base.proofs.ForCallers.{two_pieces}
 use Rattle.byte_numbers.specs.Numbers.{number}
 use Rattle.record_fields.specs.Named.{a_site, an_engine, a_protocol, a_tid, writes}
 use Rattle.record_fields.specs.Sums.{maybe, tids, doubtful}

@@ -1,4 +1,4 @@
-use Rattle.coord_laws.proofs.CoordRestarts.{going_tells}
+use Rattle.coord_laws.proofs.ForCallers.{going_tells}
 use Rattle.sum_laws.proofs.Restarts.{journals_tell_restarts}
 use Rattle.sum_laws.proofs.sums.coordinators_disks_tell_restarts.Goals as goal
 

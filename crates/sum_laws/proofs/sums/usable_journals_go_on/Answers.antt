@@ -1,5 +1,5 @@
-use Rattle.coord_laws.proofs.UsableCoordinators.{usable_go_on}
-use Rattle.site_history.proofs.UsableSites.{sites_go_on}
+use Rattle.coord_laws.proofs.ForCallers.{usable_go_on}
+use Rattle.site_history.proofs.ForCallers.{sites_go_on}
 use Rattle.sum_laws.proofs.sums.usable_journals_go_on.Goals as goal
 
 pub returns-clause-coordinators : goal.returns-clause-coordinators

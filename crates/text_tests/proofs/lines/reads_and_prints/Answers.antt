@@ -1,4 +1,4 @@
-use Rattle.mdb_base.proofs.BoolLaws.{is_true_parts}
+use Rattle.mdb_base.proofs.ForCallers.{is_true_parts}
 use Rattle.line_text.specs.Fits.{line_fits}
 use Rattle.line_text.specs.Range.{line_in_range}
 use Rattle.text_tests.proofs.lines.reads_and_prints.Goals as goal

@@ -1,6 +1,6 @@
 use Rattle.std.proofs.Common.{ℕ, ◌≡◌, ◌<◌, Option, Some, None, [], ◌∷◌, ◌++◌, get_or, slice_get, sym, ap, ◌∙◌, subst}
 use Rattle.mdb_base.specs.declared.names.Tid.{Tid}
-use Rattle.mdb_base.proofs.PlaceLaws.{slice_get-below}
+use Rattle.mdb_base.proofs.ForCallers.{slice_get-below}
 use Rattle.order_laws.specs.Tickets.{IsCycle}
 use Rattle.ticket_graph.specs.declared.steps.Step.{Step}
 use Rattle.ticket_graph.proofs.StepLemmas.{read, here}

@@ -1,7 +1,7 @@
 use Rattle.std.proofs.Common.{◌≡◌, List, [], ◌∷◌, ◌++◌, length, sym, ap, ◌∙◌, subst, arith}
 use Rattle.std.specs.Vec.Iter.{into_iter_items}
 use Rattle.mdb_base.specs.declared.names.SiteTicket.{SiteTicket}
-use Rattle.mdb_base.proofs.JoinLaws.{nothing_left}
+use Rattle.mdb_base.proofs.ForCallers.{nothing_left}
 use Rattle.order_laws.specs.Tickets.{Ticketed}
 use Rattle.ticket_graph.specs.Reach.{are_before, reached, unreached, IsLowest}
 use Rattle.ticket_graph.proofs.Keeping.{IsParting, parting_goes_behind, parting_goes_front, parting_ends}

@@ -1,6 +1,6 @@
 use Rattle.std.proofs.Common.{get_or, sym, ◌∙◌}
 use Rattle.mdb_base.specs.declared.names.Tid.{Tid}
-use Rattle.mdb_base.proofs.NameLaws.{same_tid-sym}
+use Rattle.mdb_base.proofs.ForCallers.{same_tid-sym}
 use Rattle.ticket_item.proofs.ByTid.{absent_there, absent_past}
 use Rattle.ticket_item.proofs.holders.find.Goals as goal
 use Rattle.ticket_item.proofs.holders.find.Goals.{else-place-tids-via-then-place-tids+else-eq, else-place-tids-via-else-place-tids}

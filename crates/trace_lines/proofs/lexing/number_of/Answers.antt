@@ -1,4 +1,4 @@
-use Rattle.mdb_base.proofs.BoolLaws.{not_both}
+use Rattle.mdb_base.proofs.ForCallers.{not_both}
 use Rattle.trace_lines.proofs.ParsedNumbers.{unbegun, parsed}
 use Rattle.trace_lines.proofs.lexing.number_of.Goals as goal
 

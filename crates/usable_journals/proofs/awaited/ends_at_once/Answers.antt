@@ -1,7 +1,7 @@
 use Rattle.std.proofs.Common.{List, sym, ap, ◌∙◌}
 use Rattle.presumptions.specs.declared.Participant.{Participant}
 use Rattle.fed_rules.specs.CoordRecords.{class_of, ends_at_once}
-use Rattle.journal_sums.proofs.CoordReadingLaws.{commits_at_once}
+use Rattle.journal_sums.proofs.ForCallers.{commits_at_once}
 use Rattle.usable_journals.proofs.awaited.ends_at_once.Goals as goal
 
 pub returns-then-not-is_empty : goal.returns-then-not-is_empty

@@ -1,5 +1,5 @@
 use Rattle.std.proofs.Common.{refl}
-use Rattle.scripted_link.proofs.Made.{skipped, named}
+use Rattle.scripted_link.proofs.ForCallers.{named, skipped}
 use Rattle.world_tests.proofs.links.script_of.Goals as goal
 use Rattle.world_tests.proofs.links.script_of.Goals.{then-number-ne0+in_ok-push, else-number-ne0}
 

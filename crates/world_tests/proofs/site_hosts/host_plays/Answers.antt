@@ -8,7 +8,7 @@ use Rattle.local_dbms.specs.declared.dbms.LocalDbms.{LocalDbms}
 use Rattle.local_dbms.specs.Stands.{OwnPrograms, Stands, home_from}
 use Rattle.scripted_link.specs.Rings.{Ring, Wire}
 use Rattle.host_laws.specs.Plans.{SitePlan}
-use Rattle.fed_hosts.proofs.Faults.{clean}
+use Rattle.fed_hosts.proofs.ForCallers.{clean}
 use Rattle.world_tests.specs.HostSessions.{plan_of}
 use Rattle.world_tests.proofs.site_hosts.host_plays.Goals as goal
 

@@ -3,7 +3,7 @@ use Rattle.fed_rules.specs.declared.commands.Command.{Command}
 use Rattle.fed_rules.specs.Sessions.{Session}
 use Rattle.site_core.specs.Sessions.{mem_seen}
 use Rattle.fed_world.specs.Worlds.{Stands}
-use Rattle.fed_world.proofs.FewCommands.{one_more, has_room}
+use Rattle.fed_world.proofs.ForCallers.{has_room, one_more}
 use Rattle.world_tests.proofs.worlds.step.Goals as goal
 
 pub apply-requires-clause-stood : goal.apply-requires-clause-stood

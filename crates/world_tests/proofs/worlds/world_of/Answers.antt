@@ -1,5 +1,5 @@
 use Rattle.std.proofs.Common.{[], arith}
-use Rattle.fed_world.proofs.FewCommands.{are_empty}
+use Rattle.fed_world.proofs.ForCallers.{are_empty}
 use Rattle.world_tests.proofs.worlds.world_of.Goals as goal
 
 pub new-requires-clause-empty : goal.new-requires-clause-empty

@@ -1,7 +1,7 @@
 use Rattle.std.proofs.Common.{◌≡◌, cond, refl, sym, ap, ◌∙◌}
 use Rattle.std.specs.Option.{option_copied_mut}
 use Rattle.mdb_base.specs.Names.{same_key}
-use Rattle.run_book.proofs.HeldBy.{some-found}
+use Rattle.run_book.proofs.ForCallers.{some-found}
 use Rattle.access_ages.specs.declared.key_ages.End.{End}
 use Rattle.access_ages.specs.declared.key_ages.End.TheVariants.{Commit, Abort}
 use Rattle.access_ages.specs.Ages.{Ages, ages_of, no_ages, ended}

@@ -1,8 +1,8 @@
 use Rattle.std.proofs.Common.{is_some, Option, sym, ap, ◌∙◌, subst, IsSome}
 use Rattle.std.specs.FinMap.{get}
-use Rattle.mdb_base.proofs.OptionLaws.{is_some-true}
-use Rattle.run_book.proofs.HeldBy.{some-found}
-use Rattle.site_tables.proofs.Looks.{get-lookup}
+use Rattle.mdb_base.proofs.ForCallers.{is_some-true}
+use Rattle.run_book.proofs.ForCallers.{some-found}
+use Rattle.site_tables.proofs.ForCallers.{get-lookup}
 use Rattle.access_ages.specs.declared.key_ages.KeyAges.{KeyAges}
 use Rattle.access_ages.specs.Ages.{Ages, ages_of}
 use Rattle.access_ages.proofs.KeyMaps.{room_same}

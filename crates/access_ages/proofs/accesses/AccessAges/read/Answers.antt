@@ -2,9 +2,9 @@ use Rattle.std.proofs.Common.{cond, Option, IsSome, sym, ap, ◌∙◌, subst}
 use Rattle.std.specs.FinMap.{get}
 use Rattle.std.specs.Option.{option_copied_mut}
 use Rattle.mdb_base.specs.Names.{same_key}
-use Rattle.mdb_base.proofs.OptionLaws.{lent}
-use Rattle.run_book.proofs.HeldBy.{some-found}
-use Rattle.site_tables.proofs.Looks.{get-lookup}
+use Rattle.mdb_base.proofs.ForCallers.{lent}
+use Rattle.run_book.proofs.ForCallers.{some-found}
+use Rattle.site_tables.proofs.ForCallers.{get-lookup}
 use Rattle.access_ages.specs.declared.key_ages.KeyAges.{KeyAges}
 use Rattle.access_ages.specs.Ages.{Ages, ages_of, with_reader}
 use Rattle.access_ages.proofs.KeyMaps.{ages_changed}

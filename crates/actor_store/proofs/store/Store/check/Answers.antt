@@ -1,7 +1,7 @@
 use Rattle.std.proofs.Common.{[], ◌∷◌, reverse, refl, ap}
 use Rattle.fed_rules.specs.Disk.{Append, Sync, TrimFront, after_calls, journal as journal_of}
 use Rattle.fed_rules.specs.Happenings.{used}
-use Rattle.frame_journal.proofs.Trimmed.{ends_with_last}
+use Rattle.frame_journal.proofs.ForCallers.{ends_with_last}
 use Rattle.actor_store.specs.Store.{KeepsBehind, old_standing, stored}
 use Rattle.actor_store.proofs.BehindLaws.{newer_entry}
 use Rattle.actor_store.proofs.EndsLaws.{ends_more, ends_early}

@@ -2,7 +2,7 @@ use Rattle.std.proofs.Common.{rules, tests, sym, ◌∙◌}
 use Rattle.std.proofs.lemmas.Iterator.{YieldsList-from_slice}
 use Rattle.std.proofs.lemmas.Iterator.Search.{all_from_yields_List}
 use Rattle.mdb_base.specs.declared.acts.Step.{Step}
-use Rattle.mdb_base.proofs.TestLaws.{each_of-list_all}
+use Rattle.mdb_base.proofs.ForCallers.{each_of-list_all}
 use Rattle.actor_tests.specs.GlobalSessions.{is_of_three}
 use Rattle.actor_tests.proofs.global_sessions.play.are_at_three.Goals as goal
 

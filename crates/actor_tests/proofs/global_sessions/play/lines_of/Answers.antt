@@ -1,6 +1,6 @@
 use Rattle.std.proofs.Common.{sym, subst}
 use Rattle.mdb_base.specs.Words.{Each}
-use Rattle.mdb_base.proofs.EachLaws.{each_pushed}
+use Rattle.mdb_base.proofs.ForCallers.{each_pushed}
 use Rattle.actor_tests.specs.GlobalSessions.{IsOfThreeSites}
 use Rattle.actor_tests.proofs.global_sessions.play.lines_of.Goals as goal
 

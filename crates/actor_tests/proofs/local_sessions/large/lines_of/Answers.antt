@@ -1,6 +1,6 @@
 use Rattle.std.proofs.Common.{sym, subst}
 use Rattle.mdb_base.specs.Words.{Each}
-use Rattle.mdb_base.proofs.EachLaws.{each_pushed}
+use Rattle.mdb_base.proofs.ForCallers.{each_pushed}
 use Rattle.actor_tests.specs.LocalSessions.{IsBelowLast}
 use Rattle.actor_tests.proofs.local_sessions.large.lines_of.Goals as goal
 

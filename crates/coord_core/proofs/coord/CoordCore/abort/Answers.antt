@@ -1,17 +1,17 @@
 use Rattle.std.proofs.Common.{List, Some, map, refl, sym, ap, subst, ◌∙◌}
-use Rattle.mdb_base.proofs.ResultLaws.{map_err, map_ok}
+use Rattle.mdb_base.proofs.ForCallers.{map_err, map_ok}
 use Rattle.presumptions.specs.declared.Decision.TheVariants as Decision_is
 use Rattle.fed_rules.specs.declared.answers.Answer.TheVariants as Say
 use Rattle.fed_rules.specs.declared.events.CoordStep.{CoordStep}
 use Rattle.fed_rules.specs.CoordPast.{disk, records, trip}
 use Rattle.fed_rules.specs.CoordRecords.{commits}
 use Rattle.ticket_graph.specs.Graph.{AreHeld, Graph, StandsFor}
-use Rattle.actor_store.proofs.FromLaws.{from_kept}
+use Rattle.actor_store.proofs.ForCallers.{from_kept}
 use Rattle.coord_core.specs.declared.coord.CoordCore.{CoordCore}
 use Rattle.coord_tables.specs.declared.stages.Stage.{Stage}
 use Rattle.coord_tables.specs.declared.tables.Tables.{Tables}
 use Rattle.coord_tables.specs.Stages.{stage_tickets}
-use Rattle.coord_tables.proofs.Aborts.{abort_record_fits, abort_record_in_range, abort_serving, aborted, table_forgets}
+use Rattle.coord_tables.proofs.ForCallers.{abort_record_fits, abort_record_in_range, abort_serving, aborted, table_forgets}
 use Rattle.coord_core.proofs.Aborts.{abort_pending}
 use Rattle.coord_core.proofs.Roomed.{stands_roomed}
 use Rattle.coord_core.proofs.Still.{serves, up_is}

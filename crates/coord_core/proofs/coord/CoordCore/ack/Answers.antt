@@ -1,5 +1,5 @@
 use Rattle.std.proofs.Common.{sym, refl, ◌∙◌}
-use Rattle.mdb_base.proofs.ResultLaws.{map_err, map_ok}
+use Rattle.mdb_base.proofs.ForCallers.{map_err, map_ok}
 use Rattle.presumptions.specs.declared.Protocol.TheVariants as By
 use Rattle.fed_rules.specs.declared.answers.Answer.TheVariants as Say
 use Rattle.fed_rules.specs.declared.events.CoordEvent.TheVariants as Ev
@@ -7,11 +7,8 @@ use Rattle.fed_rules.specs.declared.messages.FromSite.TheVariants as From
 use Rattle.fed_rules.specs.Happenings.{quiet}
 use Rattle.fed_rules.specs.CoordPast.{standing}
 use Rattle.protocol_table.specs.Attempts.{known_of}
-use Rattle.coord_tables.proofs.Acking.{ack_ignored, counted_presumed, counted_undecided}
-use Rattle.coord_tables.proofs.Again.{stands_decided}
-use Rattle.coord_tables.proofs.Calm.{uncounted_calm}
+use Rattle.coord_tables.proofs.ForCallers.{ack_ignored, counted_presumed, counted_undecided, said_told, stands_decided, uncounted_calm}
 use Rattle.coord_core.proofs.Events.{calm_steps}
-use Rattle.coord_tables.proofs.Inquiries.{said_told}
 use Rattle.coord_core.proofs.Still.{serves}
 use Rattle.coord_core.proofs.coord.CoordCore.ack.Goals as goal
 

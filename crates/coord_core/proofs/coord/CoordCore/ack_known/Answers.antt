@@ -1,14 +1,14 @@
 use Rattle.std.proofs.Common.{refl, sym, ap, ◌∙◌}
-use Rattle.mdb_base.proofs.ResultLaws.{map_err, map_ok}
+use Rattle.mdb_base.proofs.ForCallers.{map_err, map_ok}
 use Rattle.fed_rules.specs.declared.events.CoordEvent.TheVariants as Ev
 use Rattle.fed_rules.specs.declared.messages.FromSite.TheVariants as From
 use Rattle.fed_rules.specs.CoordPast.{disk, trip}
 use Rattle.protocol_table.specs.declared.ends.AckEnd.{AckEnd}
 use Rattle.protocol_table.specs.declared.ends.AckEnd.TheVariants as Ack
 use Rattle.protocol_table.specs.Ends.{after_ack}
-use Rattle.actor_store.proofs.FromLaws.{from_kept}
+use Rattle.actor_store.proofs.ForCallers.{from_kept}
 use Rattle.coord_core.specs.declared.coord.CoordCore.{CoordCore}
-use Rattle.coord_tables.proofs.Acking.{ack_line, decided_in_range, end_fits}
+use Rattle.coord_tables.proofs.ForCallers.{ack_line, decided_in_range, end_fits}
 use Rattle.coord_core.proofs.Acking.{ack_pending}
 use Rattle.coord_core.proofs.Endings.{pending_quiet}
 use Rattle.coord_core.proofs.Roomed.{stands_roomed}

@@ -1,15 +1,13 @@
 use Rattle.std.proofs.Common.{sym, refl, ◌∙◌}
-use Rattle.mdb_base.proofs.ResultLaws.{map_err, map_ok}
+use Rattle.mdb_base.proofs.ForCallers.{map_err, map_ok}
 use Rattle.presumptions.specs.declared.Protocol.TheVariants as By
 use Rattle.fed_rules.specs.declared.answers.Answer.TheVariants as Say
 use Rattle.fed_rules.specs.declared.events.CoordEvent.TheVariants as Ev
 use Rattle.fed_rules.specs.Happenings.{quiet}
 use Rattle.fed_rules.specs.CoordPast.{is_open, known_decision, standing}
-use Rattle.rules_laws.proofs.Scenarios.{undecided_open}
-use Rattle.coord_tables.proofs.Again.{again_decided, again_gone, stands_decided, stands_gone, stands_undecided, tells_calm}
-use Rattle.coord_tables.proofs.Calm.{quiet_calm}
+use Rattle.rules_laws.proofs.ForCallers.{undecided_open}
+use Rattle.coord_tables.proofs.ForCallers.{again_decided, again_gone, quiet_calm, said_told, stands_decided, stands_gone, stands_undecided, tells_calm}
 use Rattle.coord_core.proofs.Events.{calm_steps}
-use Rattle.coord_tables.proofs.Inquiries.{said_told}
 use Rattle.coord_core.proofs.Still.{serves}
 use Rattle.coord_core.proofs.coord.CoordCore.again.Goals as goal
 

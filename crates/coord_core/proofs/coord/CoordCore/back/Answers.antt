@@ -1,6 +1,6 @@
 use Rattle.std.proofs.Common.{None, refl}
-use Rattle.mdb_base.proofs.ResultLaws.{map_err, map_ok}
-use Rattle.actor_store.proofs.FromLaws.{from_kept}
+use Rattle.mdb_base.proofs.ForCallers.{map_err, map_ok}
+use Rattle.actor_store.proofs.ForCallers.{from_kept}
 use Rattle.coord_core.proofs.Backs.{read_failed, stays_down}
 use Rattle.coord_core.proofs.coord.CoordCore.back.Goals as goal
 

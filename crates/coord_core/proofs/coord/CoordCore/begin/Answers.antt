@@ -12,10 +12,8 @@ use Rattle.coord_core.specs.declared.coord.CoordCore.{CoordCore}
 use Rattle.coord_tables.specs.declared.stages.Stage.{Stage}
 use Rattle.coord_tables.specs.Attempts.{last_of}
 use Rattle.coord_tables.specs.Stages.{fresh_stage}
-use Rattle.coord_tables.proofs.Beginnings.{none_known, none_live}
+use Rattle.coord_tables.proofs.ForCallers.{none_known, none_live, on_err, running_is}
 use Rattle.coord_core.proofs.Beginnings.{begun_steps, stands_listed}
-use Rattle.coord_tables.proofs.Inquiries.{running_is}
-use Rattle.coord_tables.proofs.Outcomes.{on_err}
 use Rattle.coord_core.proofs.Still.{serves}
 use Rattle.coord_core.proofs.coord.CoordCore.begin.Goals as goal
 

@@ -7,11 +7,11 @@ use Rattle.fed_rules.specs.declared.sums.CoordSum.{CoordSum}
 use Rattle.fed_rules.specs.Disk.{Append, Sync, TrimFront}
 use Rattle.fed_rules.specs.CoordPast.{disk, trip}
 use Rattle.coord_journal.specs.Spelling.{IsSumInRange}
-use Rattle.actor_store.proofs.FromLaws.{from_done, from_failed, from_kept, from_stopped}
+use Rattle.actor_store.proofs.ForCallers.{from_done, from_failed, from_kept, from_stopped}
 use Rattle.coord_core.proofs.Checks.{check_large, check_line, check_pending, checkpoint_fits, sum_is}
 use Rattle.coord_core.proofs.Endings.{pending_failed, pending_made, pending_stopped}
 use Rattle.coord_core.proofs.Roomed.{stands_roomed}
-use Rattle.coord_tables.proofs.SumRanges.{sum_in_range}
+use Rattle.coord_tables.proofs.ForCallers.{sum_in_range}
 use Rattle.coord_core.proofs.coord.CoordCore.check.Goals as goal
 
 pub returns-then-is_large-clause-answered : goal.returns-then-is_large-clause-answered

@@ -6,11 +6,11 @@ use Rattle.fed_rules.specs.CoordRecords.{is_kept, recorded}
 use Rattle.protocol_table.specs.declared.known.Known.{Known}
 use Rattle.protocol_table.specs.declared.known.Restored.{Restored}
 use Rattle.protocol_table.specs.Attempts.{AreApart, restored}
-use Rattle.actor_store.proofs.FromLaws.{from_done, from_failed, from_stopped}
+use Rattle.actor_store.proofs.ForCallers.{from_done, from_failed, from_stopped}
 use Rattle.coord_tables.specs.Starting.{BeginWith, kept_by}
 use Rattle.coord_core.proofs.Backs.{back_done, back_failed, back_records, back_stopped, up_line}
 use Rattle.coord_core.proofs.Checks.{sum_is}
-use Rattle.coord_tables.proofs.Starts.{begin_serving, kept_apart, known_count, known_few}
+use Rattle.coord_tables.proofs.ForCallers.{begin_serving, kept_apart, known_count, known_few}
 use Rattle.coord_core.proofs.coord.CoordCore.come_up.Goals as goal
 
 pub restart-requires : goal.restart-requires

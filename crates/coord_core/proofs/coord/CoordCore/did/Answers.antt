@@ -1,6 +1,6 @@
 use Rattle.std.proofs.Common.{ap, ◌∙◌}
 use Rattle.mdb_base.specs.declared.replies.Reply.TheVariants as Reply_is
-use Rattle.mdb_base.proofs.ResultLaws.{map_err, map_ok}
+use Rattle.mdb_base.proofs.ForCallers.{map_err, map_ok}
 use Rattle.coord_tables.specs.Replies.{reply_event}
 use Rattle.coord_core.proofs.Taking.{counted_as, dies_aborting, ignored_steps, late_aborting, unknown_aborting}
 use Rattle.coord_core.proofs.coord.CoordCore.did.Goals as goal

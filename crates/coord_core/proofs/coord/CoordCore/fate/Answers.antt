@@ -1,6 +1,6 @@
 use Rattle.std.proofs.Common.{ℕ, ◌==◌, true, cond, sym, ap, ◌∙◌}
 use Rattle.fed_rules.specs.declared.answers.Answer.TheVariants as Say
-use Rattle.coord_tables.proofs.Inquiries.{fate_committed, fate_ended, fate_running, running_is}
+use Rattle.coord_tables.proofs.ForCallers.{fate_committed, fate_ended, fate_running, running_is}
 use Rattle.coord_core.proofs.Still.{serves}
 use Rattle.coord_core.proofs.Says.{says_as}
 use Rattle.coord_core.proofs.coord.CoordCore.fate.Goals as goal

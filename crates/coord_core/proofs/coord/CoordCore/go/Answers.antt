@@ -1,12 +1,10 @@
 use Rattle.std.proofs.Common.{true, sym, refl, ◌∙◌}
-use Rattle.mdb_base.proofs.ResultLaws.{map_on_err, map_ok}
+use Rattle.mdb_base.proofs.ForCallers.{map_ok, map_on_err}
 use Rattle.fed_rules.specs.declared.answers.Answer.TheVariants as Say
 use Rattle.fed_rules.specs.declared.events.CoordEvent.TheVariants as Ev
 use Rattle.fed_rules.specs.Happenings.{quiet}
-use Rattle.coord_tables.proofs.Calm.{quiet_calm}
+use Rattle.coord_tables.proofs.ForCallers.{go_committed, go_running, quiet_calm, running_is}
 use Rattle.coord_core.proofs.Events.{calm_steps}
-use Rattle.coord_tables.proofs.Beginnings.{go_committed, go_running}
-use Rattle.coord_tables.proofs.Inquiries.{running_is}
 use Rattle.coord_core.proofs.Still.{serves}
 use Rattle.coord_core.proofs.coord.CoordCore.go.Goals as goal
 

@@ -1,9 +1,9 @@
 use Rattle.std.proofs.Common.{refl, ◌∙◌}
-use Rattle.mdb_base.proofs.ResultLaws.{map_err, map_ok}
+use Rattle.mdb_base.proofs.ForCallers.{map_err, map_ok}
 use Rattle.fed_rules.specs.Coord.{may_take}
-use Rattle.rules_laws.proofs.CoordPasts.{counts_open}
+use Rattle.rules_laws.proofs.ForCallers.{counts_open}
 use Rattle.coord_tables.specs.Replies.{reply_event}
-use Rattle.coord_tables.proofs.Dids.{counts_are, did_sending, news_are}
+use Rattle.coord_tables.proofs.ForCallers.{counts_are, did_sending, news_are}
 use Rattle.coord_core.proofs.Still.{serves}
 use Rattle.coord_core.proofs.coord.CoordCore.go_on.Goals as goal
 

@@ -4,7 +4,7 @@ use Rattle.fed_rules.specs.CoordRecords.{commits}
 use Rattle.ticket_graph.specs.Graph.{AreHeld, Graph, StandsFor}
 use Rattle.coord_tables.specs.Waiting.{waiting}
 use Rattle.coord_core.proofs.Still.{serves_up}
-use Rattle.coord_tables.proofs.Waiting.{nothing_kept}
+use Rattle.coord_tables.proofs.ForCallers.{nothing_kept}
 use Rattle.coord_core.proofs.coord.CoordCore.graph.Goals as goal
 
 pub returns-clause-stands : goal.returns-clause-stands

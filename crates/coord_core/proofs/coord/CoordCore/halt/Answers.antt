@@ -1,6 +1,6 @@
 use Rattle.std.proofs.Common.{refl, ap}
 use Rattle.actor_store.specs.Store.{is_up}
-use Rattle.actor_store.proofs.FromLaws.{from_stop}
+use Rattle.actor_store.proofs.ForCallers.{from_stop}
 use Rattle.coord_core.proofs.Events.{halt_steps}
 use Rattle.coord_core.proofs.coord.CoordCore.halt.Goals as goal
 

@@ -3,7 +3,7 @@ use Rattle.presumptions.specs.declared.Protocol.{Protocol}
 use Rattle.fed_rules.specs.Coord.{protocol_of}
 use Rattle.fed_rules.specs.CoordPast.{standing}
 use Rattle.protocol_table.specs.Agreement.{told}
-use Rattle.coord_tables.proofs.Inquiries.{asked_known, asked_presumed, asked_undecided, inquiry_is, said_told}
+use Rattle.coord_tables.proofs.ForCallers.{asked_known, asked_presumed, asked_undecided, inquiry_is, said_told}
 use Rattle.coord_core.proofs.Still.{serves}
 use Rattle.coord_core.proofs.Says.{says_as, says_ok}
 use Rattle.coord_core.proofs.coord.CoordCore.inquire.Goals as goal

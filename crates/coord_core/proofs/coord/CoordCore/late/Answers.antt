@@ -1,11 +1,10 @@
 use Rattle.std.proofs.Common.{refl, sym, ◌∙◌}
-use Rattle.mdb_base.proofs.ResultLaws.{map_err, map_ok}
+use Rattle.mdb_base.proofs.ForCallers.{map_err, map_ok}
 use Rattle.fed_rules.specs.declared.answers.Answer.TheVariants as Say
 use Rattle.fed_rules.specs.declared.events.CoordEvent.TheVariants as Ev
 use Rattle.fed_rules.specs.Happenings.{quiet}
-use Rattle.coord_tables.proofs.Calm.{quiet_calm}
+use Rattle.coord_tables.proofs.ForCallers.{late_aborting, late_idle, quiet_calm}
 use Rattle.coord_core.proofs.Events.{calm_steps}
-use Rattle.coord_tables.proofs.Lates.{late_aborting, late_idle}
 use Rattle.coord_core.proofs.Still.{serves}
 use Rattle.coord_core.proofs.coord.CoordCore.late.Goals as goal
 

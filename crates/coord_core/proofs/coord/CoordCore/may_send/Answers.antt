@@ -1,8 +1,8 @@
 use Rattle.std.proofs.Common.{Bool, true, refl, sym, subst, ◌∙◌}
-use Rattle.mdb_base.proofs.ResultLaws.{map_ok}
+use Rattle.mdb_base.proofs.ForCallers.{map_ok}
 use Rattle.fed_rules.specs.Coord.{may_take}
 use Rattle.coord_tables.specs.Sending.{HoldsTheSame}
-use Rattle.coord_tables.proofs.Held.{without_takes}
+use Rattle.coord_tables.proofs.ForCallers.{without_takes}
 use Rattle.coord_core.proofs.coord.CoordCore.may_send.Goals as goal
 
 pub returns-then-some_take : goal.returns-then-some_take

@@ -4,7 +4,7 @@ use Rattle.fed_rules.specs.CoordPast.{others_in_phase, sites_of}
 use Rattle.fed_rules.specs.Policies.{Policy}
 use Rattle.global_exec.specs.declared.policy.SiteSet.{SiteSet}
 use Rattle.global_exec.specs.Sets.{sites_in}
-use Rattle.coord_tables.proofs.Phases.{others_are, sites_of_found, stage_there}
+use Rattle.coord_tables.proofs.ForCallers.{others_are, sites_of_found, stage_there}
 use Rattle.coord_core.proofs.Still.{serves}
 use Rattle.coord_core.proofs.coord.CoordCore.may_take.Goals as goal
 

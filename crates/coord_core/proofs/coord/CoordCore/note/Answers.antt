@@ -1,6 +1,6 @@
 use Rattle.std.proofs.Common.{refl, [], ◌∷◌}
 use Rattle.fed_rules.specs.Disk.{Append}
-use Rattle.actor_store.proofs.FromLaws.{from_done, from_failed, from_stopped}
+use Rattle.actor_store.proofs.ForCallers.{from_done, from_failed, from_stopped}
 use Rattle.coord_core.proofs.Endings.{pending_failed, pending_made, pending_stopped}
 use Rattle.coord_core.proofs.coord.CoordCore.note.Goals as goal
 

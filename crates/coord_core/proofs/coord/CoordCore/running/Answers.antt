@@ -5,7 +5,7 @@ use Rattle.actor_store.specs.declared.store.Standing.{Standing}
 use Rattle.actor_store.specs.declared.store.Standing.TheVariants.{Up, Down, Failing}
 use Rattle.actor_store.specs.Store.{is_up}
 use Rattle.coord_core.specs.Stands.{TablesStand}
-use Rattle.coord_tables.proofs.Inquiries.{running_is}
+use Rattle.coord_tables.proofs.ForCallers.{running_is}
 use Rattle.coord_core.proofs.coord.CoordCore.running.Goals as goal
 
 pub returns : goal.returns

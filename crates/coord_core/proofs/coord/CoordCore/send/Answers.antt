@@ -1,16 +1,14 @@
 use Rattle.std.proofs.Common.{Option, option_to_list, refl, sym, subst, ◌∙◌}
-use Rattle.mdb_base.proofs.OptionLaws.{nothing_is}
-use Rattle.mdb_base.proofs.ResultLaws.{map_err, map_ok}
+use Rattle.mdb_base.proofs.ForCallers.{map_err, map_ok, nothing_is}
 use Rattle.fed_rules.specs.declared.events.CoordStep.{CoordStep}
 use Rattle.fed_rules.specs.declared.records.CoordRecord.{CoordRecord}
 use Rattle.fed_rules.specs.Coord.{forced}
 use Rattle.fed_rules.specs.CoordPast.{disk, trip}
-use Rattle.actor_store.proofs.FromLaws.{from_kept}
+use Rattle.actor_store.proofs.ForCallers.{from_kept}
 use Rattle.coord_core.specs.declared.coord.CoordCore.{CoordCore}
 use Rattle.coord_core.specs.Pending.{IsPending}
 use Rattle.coord_tables.specs.Sending.{after_taken}
-use Rattle.coord_tables.proofs.Initiations.{initiation_fits, initiation_in_range}
-use Rattle.coord_tables.proofs.Sent.{initiates_is, sent_line, sent_tables}
+use Rattle.coord_tables.proofs.ForCallers.{initiates_is, initiation_fits, initiation_in_range, sent_line, sent_tables}
 use Rattle.coord_core.proofs.Endings.{pending_quiet}
 use Rattle.coord_core.proofs.Sent.{sent_pending}
 use Rattle.coord_core.proofs.Roomed.{stands_roomed}

@@ -1,5 +1,5 @@
-use Rattle.mdb_base.proofs.ResultLaws.{map_err, map_ok}
-use Rattle.coord_tables.proofs.Again.{again_sends}
+use Rattle.mdb_base.proofs.ForCallers.{map_err, map_ok}
+use Rattle.coord_tables.proofs.ForCallers.{again_sends}
 use Rattle.fed_rules.specs.declared.events.CoordEvent.TheVariants as Ev
 use Rattle.coord_core.proofs.Still.{serves}
 use Rattle.coord_core.proofs.coord.CoordCore.send_all.Goals as goal

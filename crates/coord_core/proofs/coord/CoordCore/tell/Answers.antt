@@ -2,7 +2,7 @@ use Rattle.std.proofs.Common.{List, sym, ap, ◌∙◌}
 use Rattle.std.specs.Prelude.{option_copied}
 use Rattle.presumptions.specs.declared.Participant.{Participant}
 use Rattle.fed_rules.specs.Coord.{decide_to}
-use Rattle.coord_tables.proofs.Again.{decided_some, missing_is, missing_rise}
+use Rattle.coord_tables.proofs.ForCallers.{decided_some, missing_is, missing_rise}
 use Rattle.coord_core.proofs.Still.{serves}
 use Rattle.std.proofs.Common.{true}
 use Rattle.coord_core.proofs.coord.CoordCore.tell.Goals as goal

@@ -1,5 +1,5 @@
 use Rattle.std.proofs.Common.{List, ◌∷◌, map, refl, sym, ap, subst, ◌∙◌}
-use Rattle.mdb_base.proofs.ResultLaws.{map_on_err, map_ok}
+use Rattle.mdb_base.proofs.ForCallers.{map_ok, map_on_err}
 use Rattle.order_laws.specs.Tickets.{HasNoCycle, OneEach, Ticketed}
 use Rattle.fed_rules.specs.CoordPast.{records}
 use Rattle.fed_rules.specs.CoordRecords.{commits}
@@ -8,8 +8,7 @@ use Rattle.ticket_graph.specs.Graph.{Graph, StandsFor}
 use Rattle.coord_core.specs.declared.coord.CoordCore.{CoordCore}
 use Rattle.coord_tables.specs.Starting.{ticketed_by}
 use Rattle.coord_core.proofs.Checks.{sum_is}
-use Rattle.coord_tables.proofs.Graphs.{not_kept}
-use Rattle.coord_tables.proofs.Starts.{commits_free, fresh_apart, graph_stands}
+use Rattle.coord_tables.proofs.ForCallers.{commits_free, fresh_apart, graph_stands, not_kept}
 use Rattle.coord_core.proofs.Still.{serves}
 use Rattle.coord_core.proofs.coord.CoordCore.try_tickets.Goals as goal
 

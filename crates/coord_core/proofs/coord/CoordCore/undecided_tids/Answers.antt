@@ -1,6 +1,6 @@
 use Rattle.std.proofs.Common.{true, ◌∙◌}
 use Rattle.std.proofs.lemmas.Result.{IfOk-weaker}
-use Rattle.coord_tables.proofs.Listings.{rising_listed}
+use Rattle.coord_tables.proofs.ForCallers.{rising_listed}
 use Rattle.coord_core.proofs.Still.{serves_up}
 use Rattle.coord_core.proofs.coord.CoordCore.undecided_tids.Goals as goal
 

@@ -1,9 +1,9 @@
 use Rattle.std.proofs.Common.{ℕ, Option, sym, subst, ◌∙◌}
-use Rattle.mdb_base.proofs.ResultLaws.{map_err, map_ok}
+use Rattle.mdb_base.proofs.ForCallers.{map_err, map_ok}
 use Rattle.coord_core.specs.Stands.{Fails, Steps}
 use Rattle.coord_tables.specs.Terms.{line_of}
 use Rattle.coord_tables.specs.Voting.{vote_event}
-use Rattle.coord_tables.proofs.Voting.{no_aborting, vote_open}
+use Rattle.coord_tables.proofs.ForCallers.{no_aborting, vote_open}
 use Rattle.coord_core.proofs.Voting.{ignored_vote_steps, vote_counted_as}
 use Rattle.coord_core.proofs.coord.CoordCore.vote.Goals as goal
 

@@ -1,7 +1,7 @@
 use Rattle.std.proofs.Common.{sym, ◌∙◌}
-use Rattle.mdb_base.proofs.ResultLaws.{map_err, map_ok}
+use Rattle.mdb_base.proofs.ForCallers.{map_err, map_ok}
 use Rattle.coord_core.proofs.Still.{serves}
-use Rattle.coord_tables.proofs.Voting.{vote_open}
+use Rattle.coord_tables.proofs.ForCallers.{vote_open}
 use Rattle.coord_core.proofs.coord.CoordCore.yes_vote.Goals as goal
 
 pub last_tickets-requires : goal.last_tickets-requires

@@ -1,5 +1,5 @@
 use Rattle.std.proofs.Common.{refl, ap, ◌∙◌}
-use Rattle.mdb_base.proofs.NameLaws.{same_tid-refl}
+use Rattle.mdb_base.proofs.ForCallers.{same_tid-refl}
 use Rattle.global_exec.specs.Firsts.{taken_out}
 use Rattle.global_exec.specs.Live as live
 use Rattle.coord_tables.proofs.Beginnings.{taken_last}

@@ -2,7 +2,7 @@ use Rattle.std.proofs.Common.{◌&&◌, sym, ap, ap₂, ◌∙◌}
 use Rattle.std.specs.Prelude.{option_copied}
 use Rattle.mdb_base.specs.declared.names.Tid.{Tid}
 use Rattle.fed_rules.specs.CoordPast.{has_sent, is_prepare_of}
-use Rattle.protocol_table.proofs.Agreeing.{classes_agree}
+use Rattle.protocol_table.proofs.ForCallers.{classes_agree}
 use Rattle.coord_tables.proofs.Initiations.{known_some}
 use Rattle.coord_tables.proofs.Phases.{stage_found, stage_there}
 use Rattle.coord_tables.proofs.tables.Tables.has_abort.Goals as goal

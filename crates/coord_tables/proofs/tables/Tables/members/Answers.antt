@@ -1,6 +1,6 @@
 use Rattle.std.proofs.Common.{sym, ap, ◌∙◌}
 use Rattle.std.specs.Prelude.{option_copied}
-use Rattle.mdb_base.proofs.ResultLaws.{map_ok}
+use Rattle.mdb_base.proofs.ForCallers.{map_ok}
 use Rattle.coord_tables.proofs.Initiations.{known_rise, known_some, members_are}
 use Rattle.coord_tables.proofs.tables.Tables.members.Goals as goal
 

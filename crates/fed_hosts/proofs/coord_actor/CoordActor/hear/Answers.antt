@@ -1,7 +1,7 @@
 use Rattle.std.proofs.Common.{◌≡◌, true, Some, slice_get, slice_set, length, refl, sym, ◌∙◌, subst, arith}
 use Rattle.std.proofs.lemmas.Option.{same_Some, slice_get_read}
 use Rattle.mdb_base.specs.declared.names.SiteId.{SiteId}
-use Rattle.mdb_base.proofs.OptionLaws.{none_left}
+use Rattle.mdb_base.proofs.ForCallers.{none_left}
 use Rattle.fed_rules.specs.declared.commands.Command.TheVariants as Cmd
 use Rattle.fed_rules.specs.declared.events.CoordEvent.TheVariants as Ev
 use Rattle.global_manager.specs.declared.asks.CoordAsk.TheVariants as Coord

@@ -2,7 +2,7 @@ use Rattle.std.proofs.Common.{◌≡◌, false, None, length, IfErr, inl, inr, r
 use Rattle.fed_rules.specs.declared.answers.Answer.{Answer}
 use Rattle.fed_rules.specs.CoordPast.{CoordPast}
 use Rattle.coord_tables.specs.Terms.{Terms}
-use Rattle.global_manager.proofs.Fit.{recalled}
+use Rattle.global_manager.proofs.ForCallers.{recalled}
 use Rattle.global_manager.specs.Stands.{OwnPrograms, Stands}
 use Rattle.fed_hosts.specs.declared.coord_actor.CoordLineParts.{CoordLineParts}
 use Rattle.fed_hosts.specs.CoordRooms.{HasCoordRoom}

@@ -1,4 +1,4 @@
-use Rattle.scripted_link.proofs.Waiting.{moves_on}
+use Rattle.scripted_link.proofs.ForCallers.{moves_on}
 use Rattle.fed_hosts.proofs.Carried.{carried}
 use Rattle.fed_hosts.proofs.site_actor.SiteActor.carry.Goals as goal
 

@@ -1,13 +1,13 @@
 use Rattle.std.proofs.Common.{false, is_some, Some, None, refl, sym, ap, ◌∙◌, arith}
 use Rattle.mdb_base.specs.declared.names.Tid.{Tid}
-use Rattle.mdb_base.proofs.OptionLaws.{nothing_is, none_left}
+use Rattle.mdb_base.proofs.ForCallers.{none_left, nothing_is}
 use Rattle.fed_rules.specs.declared.commands.Command.TheVariants as Cmd
-use Rattle.local_dbms.proofs.Fit.{recalled}
+use Rattle.local_dbms.proofs.ForCallers.{recalled}
 use Rattle.site_core.specs.Made.{about}
 use Rattle.fed_hosts.specs.declared.site_actor.LineParts.{LineParts}
 use Rattle.host_laws.specs.Hearing.{Bears}
 use Rattle.host_laws.specs.Turns.{past_of}
-use Rattle.host_laws.proofs.SiteRanges.{about_in_range}
+use Rattle.host_laws.proofs.ForCallers.{about_in_range}
 use Rattle.fed_hosts.proofs.Lines.{short_past, view_beside}
 use Rattle.fed_hosts.proofs.Faults.{clean}
 use Rattle.fed_hosts.proofs.Served.{kept_beside}

@@ -1,10 +1,10 @@
 use Rattle.std.proofs.Common.{false, None, length, IfErr, IsSome, inl, inr, refl, sym, ap, ◌∙◌, subst, arith}
-use Rattle.mdb_base.proofs.OptionLaws.{nothing_is}
+use Rattle.mdb_base.proofs.ForCallers.{nothing_is}
 use Rattle.fed_rules.specs.SiteCommands.{own_request}
 use Rattle.scripted_link.specs.Inlets.{taken}
 use Rattle.local_dbms.specs.Asks.{site_request}
 use Rattle.local_dbms.specs.Stands.{Stands}
-use Rattle.local_dbms.proofs.Fit.{recalled}
+use Rattle.local_dbms.proofs.ForCallers.{recalled}
 use Rattle.fed_hosts.specs.declared.site_actor.LineParts.{LineParts}
 use Rattle.fed_hosts.specs.Serving.{HasFailed}
 use Rattle.host_laws.specs.Turns.{past_of}

@@ -2,7 +2,7 @@ use Rattle.std.proofs.Common.{◌≡◌, List, None, false, map, refl, sym, ap, 
 use Rattle.std.proofs.lemmas.List.{length-map}
 use Rattle.std.specs.Global.{Vec}
 use Rattle.mdb_base.specs.declared.names.SiteId.{SiteId}
-use Rattle.mdb_base.proofs.PlaceLaws.{made_of}
+use Rattle.mdb_base.proofs.ForCallers.{made_of}
 use Rattle.fed_rules.specs.declared.scenario.Scenario.{Scenario}
 use Rattle.fed_rules.specs.Scenarios.{sites}
 use Rattle.journal_disk.specs.Disk.{Seen}

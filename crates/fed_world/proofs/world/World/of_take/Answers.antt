@@ -1,7 +1,7 @@
 use Rattle.std.proofs.Common.{◌≡◌, List, Option, Some, None, slice_get, sym, ap, ◌∙◌}
 use Rattle.std.specs.Option.{option_copied}
 use Rattle.mdb_base.specs.Words.{item_at}
-use Rattle.mdb_base.proofs.Words.{item_at-slice_get}
+use Rattle.mdb_base.proofs.ForCallers.{item_at-slice_get}
 use Rattle.fed_rules.specs.declared.messages.FromSite.{FromSite}
 use Rattle.fed_rules.specs.Story.{sent_from, story_in}
 use Rattle.fed_world.specs.Hearers.{to_take}

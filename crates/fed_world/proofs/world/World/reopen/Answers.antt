@@ -5,7 +5,7 @@ use Rattle.fed_rules.specs.Scenarios.{sites}
 use Rattle.journal_disk.specs.Disk.{Image}
 use Rattle.found_disks.specs.Finding.{found_in}
 use Rattle.found_disks.specs.Reading.{images_of}
-use Rattle.found_disks.proofs.Puts.{same_length}
+use Rattle.found_disks.proofs.ForCallers.{same_length}
 use Rattle.fed_world.specs.Reopening.{AreOnDisks, IsOnFirst}
 use Rattle.fed_world.proofs.BackSteps.{nine_images}
 use Rattle.fed_world.proofs.ReopenedWorlds.{on_disks, on_first, reopened_stands}

@@ -1,6 +1,6 @@
 use Rattle.std.proofs.Common.{◌<◌, ◌∙◌, List, [], ◌∷◌, ◌++◌, length, sym, ap₂, arith}
 use Rattle.mdb_base.specs.declared.rows.SiteRows.{SiteRows}
-use Rattle.mdb_base.proofs.PlaceLaws.{slice_get-there}
+use Rattle.mdb_base.proofs.ForCallers.{slice_get-there}
 use Rattle.fed_rules.specs.Scenarios.{sites}
 use Rattle.fed_rules.specs.Story.{story_in}
 use Rattle.fed_world.specs.Reporting.{rows_at}

@@ -1,9 +1,8 @@
 use Rattle.std.proofs.Common.{ℕ, ltb, ◌≡◌, ◌+◌, ◌-◌, inl, map, sym, subst, refl, arith}
 use Rattle.std.proofs.lemmas.List.{map_push, length_push}
-use Rattle.mdb_base.proofs.JoinLaws.{all_push}
+use Rattle.mdb_base.proofs.ForCallers.{all_push}
 use Rattle.journal_disk.specs.declared.frames.Version.TheVariants.{Second}
-use Rattle.journal_disk.proofs.Scan.{right_push}
-use Rattle.journal_disk.proofs.Whole.{written_is_frame}
+use Rattle.journal_disk.proofs.ForCallers.{right_push, written_is_frame}
 use Rattle.frame_journal.specs.Journal.{IsKeptOn, written_size}
 use Rattle.frame_journal.specs.Records.{as_written, entry_frame, entries_of, spelled_size}
 use Rattle.frame_journal.proofs.Entries.{entries_push}

@@ -5,7 +5,7 @@ use Rattle.mdb_base.specs.declared.program.Next.{Next}
 use Rattle.mdb_base.specs.Programs.{next_of, reads_of}
 use Rattle.mdb_base.specs.Rising.{IsRising}
 use Rattle.mdb_base.specs.Words.{Each, found}
-use Rattle.mdb_base.proofs.ResultLaws.{map_ok}
+use Rattle.mdb_base.proofs.ForCallers.{map_ok}
 use Rattle.fed_rules.specs.declared.messages.Due.{Due}
 use Rattle.global_exec.specs.declared.progress.Progress.{Progress}
 use Rattle.global_exec.specs.Counted.{HasRoom, advanced, counts, news, news_left, value_of}

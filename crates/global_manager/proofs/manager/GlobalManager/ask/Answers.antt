@@ -1,4 +1,4 @@
-use Rattle.mdb_base.proofs.ResultLaws.{map_err, map_ok}
+use Rattle.mdb_base.proofs.ForCallers.{map_err, map_ok}
 use Rattle.fed_rules.specs.declared.events.CoordStep.{CoordStep}
 use Rattle.actor_store.specs.declared.errors.StepErr.{StepErr}
 use Rattle.coord_core.specs.Steps.{FailsOn, StepsOn}

@@ -3,9 +3,9 @@ use Rattle.std.specs.FinMap.{from_entries, get}
 use Rattle.mdb_base.specs.declared.acts.Step.{Step}
 use Rattle.mdb_base.specs.declared.names.Tx.{Tx}
 use Rattle.mdb_base.specs.Names.{tx_cmp}
-use Rattle.mdb_base.proofs.NameOrders.{txs_total, txs_exact}
-use Rattle.site_book.proofs.Maps.{get_look}
-use Rattle.coord_core.proofs.Opened.{is_opened}
+use Rattle.mdb_base.proofs.ForCallers.{txs_exact, txs_total}
+use Rattle.site_book.proofs.ForCallers.{get_look}
+use Rattle.coord_core.proofs.ForCallers.{is_opened}
 use Rattle.global_manager.proofs.Lines.{own_fits, there}
 use Rattle.global_manager.proofs.manager.GlobalManager.reopen.Goals as goal
 

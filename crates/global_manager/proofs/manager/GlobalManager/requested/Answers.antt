@@ -1,5 +1,5 @@
 use Rattle.std.proofs.Common.{◌≡◌, IfOk, sym, ◌∙◌, subst}
-use Rattle.mdb_base.proofs.ResultLaws.{map_ok}
+use Rattle.mdb_base.proofs.ForCallers.{map_ok}
 use Rattle.fed_rules.specs.CoordPast.{CoordPast}
 use Rattle.coord_tables.specs.Terms.{Terms}
 use Rattle.global_manager.specs.declared.asks.CoordAsk.{CoordAsk}

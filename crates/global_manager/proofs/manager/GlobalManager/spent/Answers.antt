@@ -1,5 +1,5 @@
 use Rattle.std.proofs.Common.{◌≡◌, None, Some, sym, ap, ◌∙◌}
-use Rattle.mdb_base.proofs.OptionLaws.{none_left}
+use Rattle.mdb_base.proofs.ForCallers.{none_left}
 use Rattle.fed_rules.specs.CoordPast.{records, undecided_of}
 use Rattle.fed_rules.specs.CoordRecords.{committed_of}
 use Rattle.global_manager.proofs.Asked.{spent_all, spent_committed, spent_down, spent_running}

@@ -1,8 +1,7 @@
 use Rattle.std.proofs.Common.{not, sym, ap, ◌∙◌}
-use Rattle.mdb_base.proofs.OptionLaws.{nothing_is}
-use Rattle.mdb_base.proofs.JoinLaws.{some_steps}
+use Rattle.mdb_base.proofs.ForCallers.{nothing_is, some_steps}
 use Rattle.fed_rules.specs.SiteCommands as Verb
-use Rattle.site_core.proofs.LineLaws.{is_there}
+use Rattle.site_core.proofs.ForCallers.{is_there}
 use Rattle.local_dbms.proofs.Asked.{abort_live, abort_submits, found_own, found_run, none_lives, none_request, verb_down, verb_gone, verb_idle}
 use Rattle.local_dbms.proofs.Fit.{can_abort}
 use Rattle.local_dbms.proofs.Owned.{own_apart}

@@ -1,11 +1,10 @@
 use Rattle.std.proofs.Common.{◌<◌, ◌≤◌, ℕ, not, sym, ap, ◌∙◌, subst, arith}
-use Rattle.mdb_base.proofs.OptionLaws.{nothing_is}
-use Rattle.mdb_base.proofs.JoinLaws.{some_steps}
+use Rattle.mdb_base.proofs.ForCallers.{nothing_is, some_steps}
 use Rattle.fed_rules.specs.declared.events.SiteEvent.TheVariants as Ev
 use Rattle.fed_rules.specs.Requests.{Submits, attempt}
 use Rattle.fed_rules.specs.SiteCommands as Verb
 use Rattle.fed_rules.specs.SitePast.{attempts_of}
-use Rattle.site_core.proofs.LineLaws.{is_there}
+use Rattle.site_core.proofs.ForCallers.{is_there}
 use Rattle.local_dbms.specs.Stands.{CanSubmit}
 use Rattle.local_dbms.proofs.Asked.{begin_spent, begin_submits, found_own, none_request}
 use Rattle.local_dbms.proofs.Fit.{can_begin}

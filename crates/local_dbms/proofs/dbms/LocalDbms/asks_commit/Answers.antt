@@ -1,6 +1,6 @@
 use Rattle.std.proofs.Common.{◌≡◌, ◌<◌, ◌≤◌, length, sym, ap, ◌∙◌, arith}
 use Rattle.std.specs.Option.{option_copied}
-use Rattle.mdb_base.proofs.JoinLaws.{some_steps}
+use Rattle.mdb_base.proofs.ForCallers.{some_steps}
 use Rattle.fed_rules.specs.Site.{done}
 use Rattle.fed_rules.specs.SiteCommands as Verb
 use Rattle.site_book.specs.Noted.{done_in}

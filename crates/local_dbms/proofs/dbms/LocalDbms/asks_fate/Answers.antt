@@ -1,8 +1,7 @@
 use Rattle.std.proofs.Common.{not, sym, ap, ◌∙◌}
-use Rattle.mdb_base.proofs.OptionLaws.{nothing_is}
-use Rattle.mdb_base.proofs.JoinLaws.{some_steps}
+use Rattle.mdb_base.proofs.ForCallers.{nothing_is, some_steps}
 use Rattle.fed_rules.specs.SiteCommands as Verb
-use Rattle.site_core.proofs.LineLaws.{is_there}
+use Rattle.site_core.proofs.ForCallers.{is_there}
 use Rattle.local_dbms.proofs.Asked.{fate_submits, found_own, none_request}
 use Rattle.local_dbms.proofs.Fit.{can_fate}
 use Rattle.local_dbms.proofs.dbms.LocalDbms.asks_fate.Goals as goal

@@ -2,7 +2,7 @@ use Rattle.std.proofs.Common.{◌≡◌, ◌<◌, ◌≤◌, ℕ, List, length, 
 use Rattle.std.specs.Option.{option_copied}
 use Rattle.mdb_base.specs.declared.acts.PlainAct.{PlainAct}
 use Rattle.mdb_base.specs.Programs.{plain_act}
-use Rattle.mdb_base.proofs.JoinLaws.{some_steps}
+use Rattle.mdb_base.proofs.ForCallers.{some_steps}
 use Rattle.fed_rules.specs.declared.events.SiteEvent.TheVariants as Ev
 use Rattle.fed_rules.specs.Requests.{Submits}
 use Rattle.fed_rules.specs.Site.{done}

@@ -1,6 +1,6 @@
 use Rattle.std.proofs.Common.{ap, ◌∙◌, reverse}
 use Rattle.fed_rules.specs.Reopened.{opened_site}
-use Rattle.site_core.proofs.OpenedLaws.{found_journal, found_opened}
+use Rattle.site_core.proofs.ForCallers.{found_journal, found_opened}
 use Rattle.local_dbms.specs.Found.{found_programs}
 use Rattle.local_dbms.proofs.FoundLaws.{are_found, found_named, found_same}
 use Rattle.local_dbms.proofs.OpenedOwned.{opened_owned}

@@ -1,5 +1,5 @@
 use Rattle.std.proofs.Common.{sym, ◌∙◌}
-use Rattle.mdb_base.proofs.OptionLaws.{none_left}
+use Rattle.mdb_base.proofs.ForCallers.{none_left}
 use Rattle.fed_rules.specs.Requests.{attempt}
 use Rattle.local_dbms.proofs.Asked.{spent_all, spent_committed, spent_down, spent_running}
 use Rattle.local_dbms.proofs.Owned.{own_apart}

@@ -1,9 +1,7 @@
 use Rattle.std.proofs.Common.{refl}
 use Rattle.mdb_base.specs.declared.names.Engine.TheVariants.{Locking}
 use Rattle.fed_rules.specs.Runs.{Aborts}
-use Rattle.run_book.proofs.Calls.{run_at-held}
-use Rattle.run_book.proofs.HeldBy.{unended_held}
-use Rattle.run_book.proofs.InOrder.{some_held}
+use Rattle.run_book.proofs.ForCallers.{run_at-held, some_held, unended_held}
 use Rattle.locking_engine.proofs.engine.LockingEngineLocalEngine.abort.Goals as goal
 
 pub returns : goal.returns

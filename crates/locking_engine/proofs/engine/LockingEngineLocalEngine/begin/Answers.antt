@@ -2,8 +2,7 @@ use Rattle.std.proofs.Common.{◌≡◌, ◌+◌, ◌∷◌, List, refl}
 use Rattle.mdb_base.specs.declared.names.Engine.TheVariants.{Locking}
 use Rattle.fed_rules.specs.Runs.{Start, EngineLine, Begins}
 use Rattle.run_book.specs.Book.{begins}
-use Rattle.run_book.proofs.Calls.{free_after}
-use Rattle.run_book.proofs.Words.{if_ok-both}
+use Rattle.run_book.proofs.ForCallers.{free_after, if_ok-both}
 use Rattle.locking_engine.specs.declared.engine.LockingEngine.{LockingEngine}
 use Rattle.locking_engine.specs.Stands.{Stands}
 use Rattle.locking_engine.proofs.Numbers.{stands_begins}

@@ -5,9 +5,7 @@ use Rattle.fed_rules.specs.Runs.{Commits}
 use Rattle.fed_rules.specs.EngineLines.{IsRightLine}
 use Rattle.run_book.specs.Held.{Held}
 use Rattle.run_book.specs.Book.{RoomyBook}
-use Rattle.run_book.proofs.Calls.{run_at-held}
-use Rattle.run_book.proofs.Carried.{calls_well}
-use Rattle.run_book.proofs.HeldBy.{sealed_held}
+use Rattle.run_book.proofs.ForCallers.{calls_well, run_at-held, sealed_held}
 use Rattle.locking_engine.proofs.Lines.{stands_released}
 use Rattle.locking_engine.proofs.engine.LockingEngineLocalEngine.commit.Goals as goal
 

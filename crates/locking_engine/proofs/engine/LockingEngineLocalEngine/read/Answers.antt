@@ -6,8 +6,7 @@ use Rattle.fed_rules.specs.Runs.{Access, after}
 use Rattle.fed_rules.specs.Replies.{access_key}
 use Rattle.run_book.specs.Held.{Held}
 use Rattle.run_book.specs.Book.{grants, table_in}
-use Rattle.run_book.proofs.HeldBy.{live_held}
-use Rattle.run_book.proofs.InOrder.{of_found}
+use Rattle.run_book.proofs.ForCallers.{live_held, of_found}
 use Rattle.locking_engine.specs.Holders.{IsStop, held_by, place_of}
 use Rattle.locking_engine.proofs.Lines.{stands_read}
 use Rattle.locking_engine.proofs.Numbers.{right_value, stands_stopped}

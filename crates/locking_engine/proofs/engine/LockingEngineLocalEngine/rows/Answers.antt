@@ -1,6 +1,6 @@
 use Rattle.std.proofs.lemmas.Result.{IfOk-weaker}
 use Rattle.mdb_base.specs.declared.names.Engine.TheVariants.{Locking}
-use Rattle.run_book.proofs.Tables.{rows-are}
+use Rattle.run_book.proofs.ForCallers.{rows-are}
 use Rattle.locking_engine.proofs.engine.LockingEngineLocalEngine.rows.Goals as goal
 
 pub returns : goal.returns

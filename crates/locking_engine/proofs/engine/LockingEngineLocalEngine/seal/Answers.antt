@@ -4,8 +4,7 @@ use Rattle.mdb_base.specs.declared.names.Engine.TheVariants.{Locking}
 use Rattle.fed_rules.specs.Runs.{Seals}
 use Rattle.run_book.specs.declared.counters.Counters.{Counters}
 use Rattle.run_book.specs.Held.{Held}
-use Rattle.run_book.proofs.HeldBy.{sealable_held}
-use Rattle.run_book.proofs.InOrder.{if_found}
+use Rattle.run_book.proofs.ForCallers.{if_found, sealable_held}
 use Rattle.locking_engine.specs.declared.engine.LockingEngine.{LockingEngine}
 use Rattle.locking_engine.specs.Stands.{Stands}
 use Rattle.locking_engine.proofs.Numbers.{next_ticket, stands_sealed}

@@ -8,11 +8,8 @@ use Rattle.run_book.specs.declared.rival.Rival.{Rival}
 use Rattle.run_book.specs.Held.{Held, held_in}
 use Rattle.run_book.specs.Book.{Book, tickets, with_ticket}
 use Rattle.run_book.specs.Rivals.{rival_by}
-use Rattle.run_book.proofs.HeldBy.{ticketless_held, some-found}
-use Rattle.run_book.proofs.InOrder.{of_found}
-use Rattle.run_book.proofs.RunMaps.{held_in-changed_own}
-use Rattle.engine_laws.proofs.Runs.{tid_is}
-use Rattle.run_book.proofs.Calls.{run_at-held}
+use Rattle.run_book.proofs.ForCallers.{held_in-changed_own, of_found, run_at-held, some-found, ticketless_held}
+use Rattle.engine_laws.proofs.ForCallers.{tid_is}
 use Rattle.locking_engine.specs.Rule.{stop_by}
 use Rattle.locking_engine.proofs.Numbers.{stands_ticket_stopped, stands_took}
 use Rattle.locking_engine.proofs.engine.LockingEngineLocalEngine.take.Goals as goal

@@ -7,7 +7,7 @@ use Rattle.fed_rules.specs.Runs.{Access}
 use Rattle.fed_rules.specs.Replies.{access_key}
 use Rattle.run_book.specs.Held.{Held}
 use Rattle.run_book.specs.Book.{grants}
-use Rattle.run_book.proofs.HeldBy.{live_held}
+use Rattle.run_book.proofs.ForCallers.{live_held}
 use Rattle.locking_engine.specs.Holders.{IsStop, held_by, place_of}
 use Rattle.locking_engine.proofs.Lines.{stands_wrote}
 use Rattle.locking_engine.proofs.Numbers.{right_access, stands_stopped}

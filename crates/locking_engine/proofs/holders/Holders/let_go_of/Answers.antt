@@ -3,7 +3,7 @@ use Rattle.std.specs.FinMap.{get}
 use Rattle.mdb_base.specs.declared.names.Key.{Key}
 use Rattle.mdb_base.specs.declared.names.Tid.{Tid}
 use Rattle.fed_rules.specs.Runs.{Access}
-use Rattle.run_book.proofs.Words.{take_more-turned}
+use Rattle.run_book.proofs.ForCallers.{take_more-turned}
 use Rattle.locking_engine.specs.Holders.{Holders, place_of, touches}
 use Rattle.locking_engine.proofs.Places.{holder-gone, same_place}
 use Rattle.locking_engine.proofs.Touched.{touched_more}

@@ -3,7 +3,7 @@ use Rattle.std.specs.FinMap.{get}
 use Rattle.std.proofs.lemmas.Bool.{lt-ltb}
 use Rattle.run_book.specs.Held.{Held}
 use Rattle.run_book.specs.Book.{number_in}
-use Rattle.run_book.proofs.InOrder.{if_found}
+use Rattle.run_book.proofs.ForCallers.{if_found}
 use Rattle.multiversion_engine.specs.Versions.{IsNewestOr}
 use Rattle.multiversion_engine.specs.Stands.{IsOwnOr, IsValueFor}
 use Rattle.multiversion_engine.proofs.engine.MultiversionEngine.value_for.Goals as goal

@@ -5,8 +5,7 @@ use Rattle.mdb_base.specs.declared.names.Engine.TheVariants.{Multiversion}
 use Rattle.fed_rules.specs.Runs.{Commits, number}
 use Rattle.fed_rules.specs.EngineLines.{IsRightLine}
 use Rattle.run_book.specs.Held.{Held}
-use Rattle.run_book.proofs.Calls.{run_at-held}
-use Rattle.run_book.proofs.HeldBy.{sealed_held}
+use Rattle.run_book.proofs.ForCallers.{run_at-held, sealed_held}
 use Rattle.multiversion_engine.specs.OldVersions.{AllRead, writes_key}
 use Rattle.multiversion_engine.proofs.Lines.{stands_commits}
 use Rattle.multiversion_engine.proofs.engine.MultiversionEngineLocalEngine.commit.Goals as goal

@@ -7,8 +7,7 @@ use Rattle.fed_rules.specs.Replies.{age_of}
 use Rattle.run_book.specs.Rivals.{rival_by}
 use Rattle.run_book.specs.Held.{Held}
 use Rattle.run_book.specs.Book.{grants}
-use Rattle.run_book.proofs.HeldBy.{live_held}
-use Rattle.run_book.proofs.InOrder.{of_found}
+use Rattle.run_book.proofs.ForCallers.{live_held, of_found}
 use Rattle.multiversion_engine.specs.Stands.{read_stop, IsValueFor}
 use Rattle.multiversion_engine.proofs.Noting.{read_noted}
 use Rattle.multiversion_engine.proofs.Replies.{read_is, read_shape, stands_read, stands_stopped}

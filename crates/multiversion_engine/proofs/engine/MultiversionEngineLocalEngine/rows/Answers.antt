@@ -1,6 +1,6 @@
 use Rattle.std.proofs.lemmas.Result.{IfOk-weaker}
 use Rattle.mdb_base.specs.declared.names.Engine.TheVariants.{Multiversion}
-use Rattle.run_book.proofs.Tables.{rows-are}
+use Rattle.run_book.proofs.ForCallers.{rows-are}
 use Rattle.multiversion_engine.proofs.engine.MultiversionEngineLocalEngine.rows.Goals as goal
 
 pub returns : goal.returns

@@ -3,8 +3,7 @@ use Rattle.std.proofs.lemmas.Option.{same_Some}
 use Rattle.mdb_base.specs.declared.names.Engine.TheVariants.{Multiversion}
 use Rattle.access_ages.specs.Takers.{Takers}
 use Rattle.run_book.specs.Held.{Held}
-use Rattle.run_book.proofs.HeldBy.{sealable_held}
-use Rattle.run_book.proofs.InOrder.{if_found}
+use Rattle.run_book.proofs.ForCallers.{if_found, sealable_held}
 use Rattle.multiversion_engine.proofs.Replies.{next_ticket, stands_sealed}
 use Rattle.multiversion_engine.proofs.engine.MultiversionEngineLocalEngine.seal.Goals as goal
 

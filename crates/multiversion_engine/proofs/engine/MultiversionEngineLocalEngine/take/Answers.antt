@@ -5,14 +5,12 @@ use Rattle.mdb_base.specs.declared.names.Engine.TheVariants.{Multiversion}
 use Rattle.fed_rules.specs.Replies.{age_of}
 use Rattle.access_ages.specs.Takers.{ByAge, Takers, with_taker}
 use Rattle.access_ages.specs.Stops.{IsTicketStop}
-use Rattle.access_ages.proofs.Tickets.{unlisted}
-use Rattle.access_ages.proofs.Trees.{put-gone}
+use Rattle.access_ages.proofs.ForCallers.{put-gone, unlisted}
 use Rattle.run_book.specs.declared.rival.Rival.{Rival}
 use Rattle.run_book.specs.Rivals.{rival_by}
 use Rattle.run_book.specs.Held.{Held}
 use Rattle.run_book.specs.Book.{tickets}
-use Rattle.run_book.proofs.Calls.{run_at-held}
-use Rattle.run_book.proofs.HeldBy.{ticketless_held}
+use Rattle.run_book.proofs.ForCallers.{run_at-held, ticketless_held}
 use Rattle.multiversion_engine.proofs.Lines.{stands_kept}
 use Rattle.multiversion_engine.proofs.Replies.{stands_ticket_stopped, stands_took}
 use Rattle.multiversion_engine.proofs.engine.MultiversionEngineLocalEngine.take.Goals as goal

@@ -3,8 +3,8 @@ use Rattle.std.specs.FinMap.{remove}
 use Rattle.std.proofs.lemmas.Option.{same_Some}
 use Rattle.mdb_base.specs.declared.names.Engine.TheVariants.{Multiversion}
 use Rattle.fed_rules.specs.Runs.{Run, Begins, begun}
-use Rattle.fed_rules.proofs.RunLines.{run_at_own}
-use Rattle.run_book.proofs.Calls.{run_at-held}
+use Rattle.fed_rules.proofs.ForCallers.{run_at_own}
+use Rattle.run_book.proofs.ForCallers.{run_at-held}
 use Rattle.multiversion_engine.proofs.Back.{stands_unbegun}
 use Rattle.multiversion_engine.proofs.engine.MultiversionEngineLocalEngine.unbegin.Goals as goal
 

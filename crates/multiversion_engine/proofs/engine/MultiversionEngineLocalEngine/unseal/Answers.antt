@@ -3,11 +3,7 @@ use Rattle.mdb_base.specs.declared.names.Engine.TheVariants.{Multiversion}
 use Rattle.mdb_base.specs.Words.{map_some}
 use Rattle.run_book.specs.Held.{Held, held_in}
 use Rattle.run_book.specs.Book.{Book, not_sealed}
-use Rattle.run_book.proofs.Calls.{run_at-held}
-use Rattle.run_book.proofs.Carried.{unseals_well}
-use Rattle.run_book.proofs.HeldBy.{just_sealed_held, some-found}
-use Rattle.run_book.proofs.InOrder.{some_held}
-use Rattle.run_book.proofs.RunMaps.{held_in-changed_own}
+use Rattle.run_book.proofs.ForCallers.{held_in-changed_own, just_sealed_held, run_at-held, some-found, some_held, unseals_well}
 use Rattle.multiversion_engine.proofs.Back.{stands_unsealed}
 use Rattle.multiversion_engine.proofs.engine.MultiversionEngineLocalEngine.unseal.Goals as goal
 

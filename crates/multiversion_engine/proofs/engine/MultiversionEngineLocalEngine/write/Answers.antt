@@ -2,14 +2,13 @@ use Rattle.std.proofs.Common.{◌≡◌, Some, None, refl, sym, ap, ◌∙◌}
 use Rattle.std.proofs.lemmas.Option.{same_Some}
 use Rattle.mdb_base.specs.declared.names.Engine.TheVariants.{Multiversion}
 use Rattle.mdb_base.specs.declared.acts.PlainAct.TheVariants.{Write}
-use Rattle.mdb_base.proofs.ResultLaws.{on_err_anyway}
+use Rattle.mdb_base.proofs.ForCallers.{on_err_anyway}
 use Rattle.fed_rules.specs.Runs.{Access}
 use Rattle.fed_rules.specs.Replies.{age_of}
 use Rattle.run_book.specs.Rivals.{rival_by}
 use Rattle.run_book.specs.Held.{Held}
 use Rattle.run_book.specs.Book.{grants}
-use Rattle.run_book.proofs.HeldBy.{live_held}
-use Rattle.run_book.proofs.InOrder.{of_found}
+use Rattle.run_book.proofs.ForCallers.{live_held, of_found}
 use Rattle.multiversion_engine.specs.Stands.{write_stop}
 use Rattle.multiversion_engine.proofs.Lines.{stands_kept}
 use Rattle.multiversion_engine.proofs.Noting.{write_noted}

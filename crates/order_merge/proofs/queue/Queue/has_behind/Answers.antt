@@ -1,6 +1,6 @@
 use Rattle.std.proofs.Common.{◌≡◌, false, not, ◌∙◌, sym}
 use Rattle.mdb_base.specs.Names.{same_tid}
-use Rattle.order_laws.proofs.Lists.{not_false}
+use Rattle.order_laws.proofs.ForCallers.{not_false}
 use Rattle.order_merge.proofs.Queues.{first_not_behind}
 use Rattle.order_merge.proofs.queue.Queue.has_behind.Goals as goal
 

@@ -1,7 +1,7 @@
 use Rattle.std.proofs.Common.{[], sym, ◌∙◌}
 use Rattle.std.proofs.lemmas.List.{length-map}
-use Rattle.fed_world.proofs.Faults.{told_later}
-use Rattle.closing.proofs.Cores.{on_ok}
+use Rattle.fed_world.proofs.ForCallers.{told_later}
+use Rattle.closing.proofs.ForCallers.{on_ok}
 use Rattle.run_audit.proofs.Whole.{run_audited, verdict_there, will_fit}
 use Rattle.run_audit.proofs.Whys.{as_many_disks}
 use Rattle.run_audit.proofs.submitted.Submitted.audit.Goals as goal

@@ -3,7 +3,7 @@ use Rattle.std.specs.Prelude.{is_none}
 use Rattle.std.proofs.lemmas.Bool.{le-ltb, lt-ltb}
 use Rattle.std.proofs.lemmas.List.{drop_all}
 use Rattle.mdb_base.specs.Programs.{bad_register}
-use Rattle.mdb_base.proofs.Registers.{bad_register-passes, bad_register-stops}
+use Rattle.mdb_base.proofs.ForCallers.{bad_register-passes, bad_register-stops}
 use Rattle.scenario_text.proofs.draft.transactions.registers_hold.Goals as goal
 use Rattle.scenario_text.proofs.draft.transactions.registers_hold.Goals.{in-Get, in-Set, in-Add+else-from-reads}
 

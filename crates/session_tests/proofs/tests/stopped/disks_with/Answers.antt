@@ -1,6 +1,6 @@
 use Rattle.std.proofs.Common.{◌≡◌, length, sym, subst}
 use Rattle.mdb_base.specs.Words.{Each}
-use Rattle.mdb_base.proofs.EachLaws.{each_pushed}
+use Rattle.mdb_base.proofs.ForCallers.{each_pushed}
 use Rattle.journal_disk.specs.declared.mem_disk.MemDisk.{MemDisk}
 use Rattle.journal_disk.specs.MemDisk.{mem_image}
 use Rattle.session_tests.proofs.tests.stopped.disks_with.Goals as goal

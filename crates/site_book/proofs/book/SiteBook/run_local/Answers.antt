@@ -3,7 +3,7 @@ use Rattle.std.specs.FinMap.{get, remove}
 use Rattle.site_book.specs.declared.progress.Standing.TheVariants as Has
 use Rattle.site_book.specs.Book.{Book, Standings, standing_of}
 use Rattle.site_book.specs.Numbered.{by_number}
-use Rattle.mdb_base.proofs.NameOrders.{txs_total, txs_exact}
+use Rattle.mdb_base.proofs.ForCallers.{txs_exact, txs_total}
 use Rattle.site_book.proofs.Maps.{gone-put}
 use Rattle.site_book.proofs.Undone.{nothing_stands, same_book}
 use Rattle.site_book.proofs.book.SiteBook.run_local.Goals as goal

@@ -1,6 +1,6 @@
 use Rattle.std.proofs.Common.{◌≡◌, not, [], ◌∷◌, None, refl, sym, ap, ◌∙◌}
 use Rattle.mdb_base.specs.declared.replies.Reply.{Reply}
-use Rattle.mdb_base.proofs.OptionLaws.{nothing_is}
+use Rattle.mdb_base.proofs.ForCallers.{nothing_is}
 use Rattle.fed_rules.specs.declared.answers.Answer.{Answer}
 use Rattle.fed_rules.specs.declared.answers.Answer.TheVariants as Say
 use Rattle.fed_rules.specs.declared.events.SiteEvent.TheVariants as Ev

@@ -1,12 +1,12 @@
 use Rattle.std.proofs.Common.{refl}
-use Rattle.mdb_base.proofs.ResultLaws.{map_err, map_ok}
+use Rattle.mdb_base.proofs.ForCallers.{map_err, map_ok}
 use Rattle.fed_rules.specs.declared.events.SiteEvent.TheVariants as Ev
 use Rattle.fed_rules.specs.declared.events.SiteStep.{SiteStep}
 use Rattle.fed_rules.specs.Site.{site_line}
 use Rattle.fed_rules.specs.SitePast.{SitePast, disk, trip}
 use Rattle.fed_rules.specs.SiteRecords.{Home}
 use Rattle.actor_store.specs.declared.errors.StepErr.{StepErr}
-use Rattle.actor_store.proofs.FromLaws.{from_kept}
+use Rattle.actor_store.proofs.ForCallers.{from_kept}
 use Rattle.site_core.specs.declared.site.SiteCore.{SiteCore}
 use Rattle.site_core.specs.Stands.{Answers, Breaks, Stands}
 use Rattle.site_core.specs.Steps.{EachPast}

@@ -1,12 +1,12 @@
 use Rattle.std.proofs.Common.{◌≡◌, ℕ, ◌∷◌, refl, sym, ap, ◌∙◌, subst}
-use Rattle.mdb_base.proofs.OptionLaws.{none_left}
+use Rattle.mdb_base.proofs.ForCallers.{none_left}
 use Rattle.fed_rules.specs.declared.answers.Answer.TheVariants as Say
 use Rattle.fed_rules.specs.declared.events.SiteEvent.TheVariants as Ev
 use Rattle.fed_rules.specs.Runs.{Begins}
 use Rattle.fed_rules.specs.Site.{next_number}
 use Rattle.fed_rules.specs.SitePast.{engine_lines, epoch_start}
 use Rattle.site_book.specs.Book.{begins_local}
-use Rattle.site_book.proofs.Undone.{unbegins-begins}
+use Rattle.site_book.proofs.ForCallers.{unbegins-begins}
 use Rattle.site_core.specs.declared.site.SiteCore.{SiteCore}
 use Rattle.site_core.proofs.LineLaws.{begin_begun, begin_committed, begin_running, running_is}
 use Rattle.site_core.proofs.LocalLaws.{begin_adds, free_there, no_entry}

@@ -4,9 +4,9 @@ use Rattle.fed_rules.specs.declared.events.SiteStep.{SiteStep}
 use Rattle.fed_rules.specs.declared.sums.SiteSum.{SiteSum}
 use Rattle.fed_rules.specs.SitePast.{disk, records, trip}
 use Rattle.site_journal.specs.Spelling.{IsSumInRange}
-use Rattle.actor_store.proofs.FromLaws.{from_done, from_failed, from_kept, from_stopped}
+use Rattle.actor_store.proofs.ForCallers.{from_done, from_failed, from_kept, from_stopped}
 use Rattle.site_core.proofs.CheckLaws.{check_done, check_failed, check_large, check_stopped, checkpoint_fits, roomier}
-use Rattle.site_history.proofs.Founded.{founded}
+use Rattle.site_history.proofs.ForCallers.{founded}
 use Rattle.site_core.proofs.JournalLaws.{is_journal, sum_is}
 use Rattle.site_core.proofs.SumLaws.{sum_in_range}
 use Rattle.site_core.proofs.site.SiteCore.check.Goals as goal

@@ -1,6 +1,5 @@
 use Rattle.std.proofs.Common.{not, ◌∷◌, [], None, refl, ap, ◌∙◌}
-use Rattle.mdb_base.proofs.OptionLaws.{nothing_is}
-use Rattle.mdb_base.proofs.ResultLaws.{map_err, map_ok}
+use Rattle.mdb_base.proofs.ForCallers.{map_err, map_ok, nothing_is}
 use Rattle.fed_rules.specs.declared.answers.Answer.{Answer}
 use Rattle.fed_rules.specs.declared.answers.Answer.TheVariants as Say
 use Rattle.fed_rules.specs.declared.events.SiteEvent.TheVariants as Ev
@@ -11,7 +10,7 @@ use Rattle.fed_rules.specs.SitePast.{SitePast, engine_lines, epoch_start, is_clo
 use Rattle.fed_rules.specs.SiteRecords.{Home}
 use Rattle.actor_store.specs.declared.errors.StepErr.{StepErr}
 use Rattle.site_book.specs.Book.{closes}
-use Rattle.site_book.proofs.Followed.{calls_well}
+use Rattle.site_book.proofs.ForCallers.{calls_well}
 use Rattle.site_core.specs.declared.site.SiteCore.{SiteCore}
 use Rattle.site_core.specs.Sealing.{StandsSealing}
 use Rattle.site_core.specs.Stands.{Answers, Breaks, Stands}

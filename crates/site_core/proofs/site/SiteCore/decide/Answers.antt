@@ -1,5 +1,5 @@
 use Rattle.std.proofs.Common.{true, false, is_some, [], ◌∷◌, refl, sym, ap, ◌∙◌}
-use Rattle.mdb_base.proofs.OptionLaws.{nothing_is}
+use Rattle.mdb_base.proofs.ForCallers.{nothing_is}
 use Rattle.fed_rules.specs.Runs.{Aborts}
 use Rattle.fed_rules.specs.Site.{unless_tripped}
 use Rattle.fed_rules.specs.SitePast.{engine_lines, epoch_start}

@@ -1,6 +1,6 @@
 use Rattle.std.proofs.Common.{is_some, map, ap, sym, subst, ◌∙◌}
 use Rattle.std.proofs.lemmas.Result.{IfOk-weaker}
-use Rattle.mdb_base.proofs.OptionLaws.{some_mapped}
+use Rattle.mdb_base.proofs.ForCallers.{some_mapped}
 use Rattle.fed_rules.specs.declared.runs.Doubt.{Doubt}
 use Rattle.fed_rules.specs.SitePast.{records}
 use Rattle.fed_rules.specs.SiteRecords.{doubt_of}

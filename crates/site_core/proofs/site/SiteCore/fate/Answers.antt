@@ -1,6 +1,6 @@
 use Rattle.std.proofs.Common.{◌≡◌, refl, sym, ◌∙◌}
 use Rattle.std.proofs.lemmas.Bool.{eq-eqb, ne_eqb}
-use Rattle.mdb_base.proofs.OptionLaws.{none_left}
+use Rattle.mdb_base.proofs.ForCallers.{none_left}
 use Rattle.fed_rules.specs.SitePast.{attempts_of}
 use Rattle.fed_rules.specs.declared.answers.Answer.TheVariants as Say
 use Rattle.fed_rules.specs.declared.events.SiteEvent.TheVariants as Ev

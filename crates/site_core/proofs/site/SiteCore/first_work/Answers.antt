@@ -2,8 +2,7 @@ use Rattle.std.proofs.Common.{◌≡◌, ℕ, ◌<◌, ◌==◌, ◌&&◌, true,
 use Rattle.std.specs.Option.{IfSome}
 use Rattle.std.proofs.lemmas.Bool.{cond-true}
 use Rattle.mdb_base.specs.declared.replies.Reply.TheVariants as Reply_is
-use Rattle.mdb_base.proofs.NameLaws.{same_tid-refl}
-use Rattle.mdb_base.proofs.OptionLaws.{nothing_is}
+use Rattle.mdb_base.proofs.ForCallers.{nothing_is, same_tid-refl}
 use Rattle.fed_rules.specs.declared.messages.ToSite.TheVariants as To
 use Rattle.fed_rules.specs.Runs.{Begins, begun}
 use Rattle.fed_rules.specs.Site.{did, of_work}
@@ -11,7 +10,7 @@ use Rattle.fed_rules.specs.SitePast.{engine_lines, epoch_start}
 use Rattle.site_book.specs.declared.progress.Progress.TheVariants as Is
 use Rattle.site_book.specs.Book.{Book, begins_global, forgets, live_in, notes_reply, progress_of}
 use Rattle.site_book.specs.Noted.{Noted, fresh}
-use Rattle.site_book.proofs.Undone.{forgets-enters}
+use Rattle.site_book.proofs.ForCallers.{forgets-enters}
 use Rattle.site_core.specs.declared.site.SiteCore.{SiteCore}
 use Rattle.site_core.proofs.LineLaws.{live_none}
 use Rattle.site_core.proofs.OperationLaws.{did_adds, did_is}

@@ -1,5 +1,5 @@
 use Rattle.std.proofs.Common.{ap, ◌∙◌}
-use Rattle.mdb_base.proofs.ResultLaws.{map_ok}
+use Rattle.mdb_base.proofs.ForCallers.{map_ok}
 use Rattle.fed_rules.specs.declared.events.SiteStep.{SiteStep}
 use Rattle.fed_rules.specs.Site.{of_decide, of_give, of_prepare, of_take, of_work, unless_tripped}
 use Rattle.fed_rules.specs.SitePast.{SiteHappening, SitePast}

@@ -1,12 +1,12 @@
 use Rattle.std.proofs.Common.{not, [], ◌∷◌, refl, sym, ap, ◌∙◌}
-use Rattle.mdb_base.proofs.OptionLaws.{nothing_is}
+use Rattle.mdb_base.proofs.ForCallers.{nothing_is}
 use Rattle.fed_rules.specs.declared.answers.Answer.TheVariants as Say
 use Rattle.fed_rules.specs.declared.events.SiteEvent.TheVariants as Ev
 use Rattle.fed_rules.specs.Runs.{Aborts, changed}
 use Rattle.fed_rules.specs.Site.{with_lines}
 use Rattle.fed_rules.specs.SitePast.{engine_lines, epoch_start, is_closed}
 use Rattle.site_book.specs.Book.{closes}
-use Rattle.site_book.proofs.Followed.{calls_well}
+use Rattle.site_book.proofs.ForCallers.{calls_well}
 use Rattle.site_core.specs.declared.site.SiteCore.{SiteCore}
 use Rattle.site_core.proofs.InquiryLaws.{drop_drops, drop_idle, drop_local, was_global_one, was_local_one}
 use Rattle.site_core.proofs.LineLaws.{is_there, live_none, live_some}

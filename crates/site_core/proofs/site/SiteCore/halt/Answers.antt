@@ -1,5 +1,5 @@
 use Rattle.std.proofs.Common.{refl}
-use Rattle.actor_store.proofs.FromLaws.{from_stop}
+use Rattle.actor_store.proofs.ForCallers.{from_stop}
 use Rattle.site_core.proofs.StopLaws.{halt_stops}
 use Rattle.site_core.proofs.site.SiteCore.halt.Goals as goal
 

@@ -1,8 +1,7 @@
 use Rattle.std.proofs.Common.{◌≡◌, ℕ, Some, None, [], ◌∷◌, refl, sym, ap, ◌∙◌, subst}
 use Rattle.std.proofs.lemmas.Bool.{ne_eqb}
 use Rattle.mdb_base.specs.declared.replies.Why.{Why}
-use Rattle.mdb_base.proofs.OptionLaws.{none_left}
-use Rattle.mdb_base.proofs.ResultLaws.{map_err, map_ok}
+use Rattle.mdb_base.proofs.ForCallers.{map_err, map_ok, none_left}
 use Rattle.fed_rules.specs.declared.answers.Answer.TheVariants as Say
 use Rattle.fed_rules.specs.declared.events.SiteEvent.TheVariants as Ev
 use Rattle.fed_rules.specs.declared.events.SiteStep.{SiteStep}

@@ -3,8 +3,8 @@ use Rattle.fed_rules.specs.declared.answers.Answer.TheVariants as Say
 use Rattle.fed_rules.specs.declared.events.SiteStep.{SiteStep}
 use Rattle.fed_rules.specs.Runs.{Seals}
 use Rattle.fed_rules.specs.SitePast.{disk, engine_lines, epoch_start, trip}
-use Rattle.fed_rules.proofs.RunLines.{sealed_then}
-use Rattle.actor_store.proofs.FromLaws.{from_done, from_failed, from_kept, from_stopped}
+use Rattle.fed_rules.proofs.ForCallers.{sealed_then}
+use Rattle.actor_store.proofs.ForCallers.{from_done, from_failed, from_kept, from_stopped}
 use Rattle.site_core.specs.declared.site.SiteCore.{SiteCore}
 use Rattle.site_core.proofs.CommitLaws.{commit_done, commit_failed, commit_stopped, record_fits, runs_here}
 use Rattle.site_core.proofs.SealingLaws.{sealed_run, unsealed_stands}

@@ -2,7 +2,7 @@ use Rattle.std.proofs.Common.{ℕ, None, refl, ap, ◌∙◌}
 use Rattle.fed_rules.specs.declared.answers.Answer.TheVariants as Say
 use Rattle.fed_rules.specs.declared.events.SiteStep.{SiteStep}
 use Rattle.fed_rules.specs.SitePast.{disk, engine_lines, epoch_start, trip}
-use Rattle.actor_store.proofs.FromLaws.{from_done, from_failed, from_kept, from_stopped}
+use Rattle.actor_store.proofs.ForCallers.{from_done, from_failed, from_kept, from_stopped}
 use Rattle.site_core.specs.declared.site.SiteCore.{SiteCore}
 use Rattle.site_core.proofs.SealingLaws.{unsealed_stands}
 use Rattle.prepared_state.specs.Book.{doubt_about}

@@ -9,7 +9,7 @@ use Rattle.fed_rules.specs.SiteRecords.{doubts, kept_held}
 use Rattle.prepared_state.specs.Book.{AreApart}
 use Rattle.engine_contract.specs.Calls.{start_from}
 use Rattle.journal_sums.specs.Starts.{doubt_held}
-use Rattle.actor_store.proofs.FromLaws.{from_done, from_failed, from_kept, from_stopped}
+use Rattle.actor_store.proofs.ForCallers.{from_done, from_failed, from_kept, from_stopped}
 use Rattle.site_core.specs.declared.site.SiteCore.{SiteCore}
 use Rattle.site_core.specs.Made.{was_found}
 use Rattle.site_core.specs.Store.{Keeps, KeepsBehind, Store}

@@ -1,5 +1,5 @@
 use Rattle.std.proofs.Common.{◌≡◌, not, [], refl, ap, ◌∙◌}
-use Rattle.mdb_base.proofs.OptionLaws.{none_left}
+use Rattle.mdb_base.proofs.ForCallers.{none_left}
 use Rattle.fed_rules.specs.declared.messages.ToSite.TheVariants as To
 use Rattle.fed_rules.specs.Site.{reply_to}
 use Rattle.fed_rules.specs.SitePast.{engine_lines, epoch_start}

@@ -1,6 +1,6 @@
 use Rattle.std.proofs.Common.{◌≡◌, [], ◌∷◌, ◌++◌, length, sym, ap, ◌∙◌, subst, append_assoc, append-nil, arith}
 use Rattle.std.specs.Vec.Iter.{into_iter_items}
-use Rattle.mdb_base.proofs.JoinLaws.{nothing_left}
+use Rattle.mdb_base.proofs.ForCallers.{nothing_left}
 use Rattle.order_laws.specs.Chains.{In}
 use Rattle.order_laws.specs.Tickets.{Ticketed}
 use Rattle.ticket_graph.specs.Graph.{IsWith}

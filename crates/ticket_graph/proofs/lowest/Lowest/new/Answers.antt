@@ -1,6 +1,6 @@
 use Rattle.std.proofs.Common.{ℕ, nat_lt, ap, ◌∙◌, arith}
 use Rattle.std.proofs.lemmas.List.{get_or-replicate}
-use Rattle.mdb_base.proofs.NumberLaws.{not_below}
+use Rattle.mdb_base.proofs.ForCallers.{not_below}
 use Rattle.ticket_graph.proofs.lowest.Lowest.new.Goals as goal
 
 pub returns : goal.returns

@@ -4,8 +4,7 @@ use Rattle.mdb_base.specs.declared.names.Engine.TheVariants.{Timestamp}
 use Rattle.fed_rules.specs.Runs.{Commits}
 use Rattle.fed_rules.specs.EngineLines.{IsRightLine}
 use Rattle.run_book.specs.Held.{Held}
-use Rattle.run_book.proofs.Calls.{run_at-held}
-use Rattle.run_book.proofs.HeldBy.{sealed_held}
+use Rattle.run_book.proofs.ForCallers.{run_at-held, sealed_held}
 use Rattle.timestamp_engine.proofs.Lines.{stands_called}
 use Rattle.timestamp_engine.proofs.engine.TimestampEngineLocalEngine.commit.Goals as goal
 

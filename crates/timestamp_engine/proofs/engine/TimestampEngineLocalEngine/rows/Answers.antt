@@ -1,6 +1,6 @@
 use Rattle.std.proofs.lemmas.Result.{IfOk-weaker}
 use Rattle.mdb_base.specs.declared.names.Engine.TheVariants.{Timestamp}
-use Rattle.run_book.proofs.Tables.{rows-are}
+use Rattle.run_book.proofs.ForCallers.{rows-are}
 use Rattle.timestamp_engine.proofs.engine.TimestampEngineLocalEngine.rows.Goals as goal
 
 pub returns : goal.returns

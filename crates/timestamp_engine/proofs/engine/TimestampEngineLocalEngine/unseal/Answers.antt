@@ -3,9 +3,7 @@ use Rattle.mdb_base.specs.declared.names.Engine.TheVariants.{Timestamp}
 use Rattle.mdb_base.specs.Words.{map_some}
 use Rattle.run_book.specs.Held.{Held, held_in}
 use Rattle.run_book.specs.Book.{Book, not_sealed}
-use Rattle.run_book.proofs.HeldBy.{just_sealed_held, some-found}
-use Rattle.run_book.proofs.InOrder.{some_held}
-use Rattle.run_book.proofs.RunMaps.{held_in-changed_own}
+use Rattle.run_book.proofs.ForCallers.{held_in-changed_own, just_sealed_held, some-found, some_held}
 use Rattle.timestamp_engine.proofs.Lines.{stands_unsealed}
 use Rattle.timestamp_engine.proofs.engine.TimestampEngineLocalEngine.unseal.Goals as goal
 

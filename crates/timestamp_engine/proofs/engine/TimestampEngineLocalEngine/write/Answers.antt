@@ -10,8 +10,7 @@ use Rattle.run_book.specs.declared.rival.Rival.{Rival}
 use Rattle.run_book.specs.Book.{grants}
 use Rattle.run_book.specs.Held.{Held}
 use Rattle.run_book.specs.Rivals.{rival_by}
-use Rattle.run_book.proofs.HeldBy.{live_held}
-use Rattle.run_book.proofs.InOrder.{of_found}
+use Rattle.run_book.proofs.ForCallers.{live_held, of_found}
 use Rattle.access_ages.specs.declared.key_ages.KeyAges.{KeyAges}
 use Rattle.access_ages.specs.Ages.{ages_of, with_writer}
 use Rattle.access_ages.specs.Stops.{key_stop}

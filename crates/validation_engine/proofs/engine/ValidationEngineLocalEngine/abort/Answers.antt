@@ -1,5 +1,5 @@
 use Rattle.std.proofs.Common.{is_some, Option, ℕ, sym, ap, ◌∙◌}
-use Rattle.mdb_base.proofs.OptionLaws.{some_number, no_number}
+use Rattle.mdb_base.proofs.ForCallers.{no_number, some_number}
 use Rattle.validation_engine.proofs.Indexed.{kept_same}
 use Rattle.validation_engine.proofs.Lines.{stands_aborted, stands_given_up}
 use Rattle.validation_engine.proofs.engine.ValidationEngineLocalEngine.abort.Goals as goal

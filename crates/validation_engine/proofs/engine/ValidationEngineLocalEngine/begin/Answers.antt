@@ -2,8 +2,7 @@ use Rattle.std.proofs.Common.{◌≡◌, ◌+◌, ◌∷◌, List}
 use Rattle.mdb_base.specs.declared.names.Engine.TheVariants.{Validation}
 use Rattle.fed_rules.specs.Runs.{Start, EngineLine, Begins}
 use Rattle.run_book.specs.Book.{begins}
-use Rattle.run_book.proofs.Calls.{free_after}
-use Rattle.run_book.proofs.Words.{if_ok-both}
+use Rattle.run_book.proofs.ForCallers.{free_after, if_ok-both}
 use Rattle.validation_engine.specs.declared.engine.ValidationEngine.{ValidationEngine}
 use Rattle.validation_engine.specs.Stands.{Stands}
 use Rattle.validation_engine.proofs.Indexed.{kept_same}

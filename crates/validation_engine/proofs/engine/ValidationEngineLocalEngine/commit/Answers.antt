@@ -5,7 +5,7 @@ use Rattle.mdb_base.specs.declared.names.Tid.{Tid}
 use Rattle.run_book.specs.declared.counters.Counters.{Counters}
 use Rattle.run_book.specs.Held.{Held}
 use Rattle.run_book.specs.Book.{Book}
-use Rattle.run_book.proofs.HeldBy.{sealed_held}
+use Rattle.run_book.proofs.ForCallers.{sealed_held}
 use Rattle.validation_engine.specs.declared.index.Change.TheVariants.{Committed}
 use Rattle.validation_engine.specs.Index.{Index, IsChanged}
 use Rattle.validation_engine.proofs.Lines.{stands_committed}

@@ -2,8 +2,7 @@ use Rattle.std.proofs.Common.{◌≡◌, ap, ◌∙◌}
 use Rattle.mdb_base.specs.declared.names.Engine.TheVariants.{Validation}
 use Rattle.fed_rules.specs.Runs.{Access, after}
 use Rattle.run_book.specs.Book.{grants, table_in}
-use Rattle.run_book.proofs.HeldBy.{live_held}
-use Rattle.run_book.proofs.InOrder.{of_found}
+use Rattle.run_book.proofs.ForCallers.{live_held, of_found}
 use Rattle.validation_engine.proofs.Indexed.{kept_same}
 use Rattle.validation_engine.proofs.Lines.{stands_read}
 use Rattle.validation_engine.proofs.engine.ValidationEngineLocalEngine.read.Goals as goal

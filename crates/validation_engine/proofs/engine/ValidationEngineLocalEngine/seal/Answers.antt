@@ -5,9 +5,7 @@ use Rattle.mdb_base.specs.Words.{map_some}
 use Rattle.run_book.specs.declared.counters.Counters.{Counters}
 use Rattle.run_book.specs.Held.{Held, held_in}
 use Rattle.run_book.specs.Book.{Book, sealed_with}
-use Rattle.run_book.proofs.HeldBy.{sealable_held, some-found}
-use Rattle.run_book.proofs.InOrder.{if_found}
-use Rattle.run_book.proofs.RunMaps.{held_in-changed_own}
+use Rattle.run_book.proofs.ForCallers.{held_in-changed_own, if_found, sealable_held, some-found}
 use Rattle.validation_engine.proofs.Indexed.{kept_same}
 use Rattle.validation_engine.proofs.Lines.{next_ticket, stands_refused, stands_sealed, stop_found, passes_rule, hides_none}
 use Rattle.validation_engine.proofs.engine.ValidationEngineLocalEngine.seal.Goals as goal

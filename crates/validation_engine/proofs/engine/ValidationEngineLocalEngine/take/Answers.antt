@@ -1,7 +1,7 @@
 use Rattle.std.proofs.Common.{ℕ, sym, ap, ◌∙◌}
 use Rattle.mdb_base.specs.declared.names.Engine.TheVariants.{Validation}
 use Rattle.run_book.specs.Book.{tickets}
-use Rattle.run_book.proofs.HeldBy.{ticketless_held}
+use Rattle.run_book.proofs.ForCallers.{ticketless_held}
 use Rattle.validation_engine.proofs.Indexed.{kept_same}
 use Rattle.validation_engine.proofs.Lines.{stands_took}
 use Rattle.validation_engine.proofs.engine.ValidationEngineLocalEngine.take.Goals as goal

@@ -2,7 +2,7 @@ use Rattle.std.proofs.Common.{sym, ap, ◌∙◌, subst, Result, Ok, Err, OnErr}
 use Rattle.mdb_base.specs.declared.names.Engine.TheVariants.{Validation}
 use Rattle.fed_rules.specs.Runs.{Access}
 use Rattle.run_book.specs.Book.{grants}
-use Rattle.run_book.proofs.HeldBy.{live_held}
+use Rattle.run_book.proofs.ForCallers.{live_held}
 use Rattle.validation_engine.specs.Index.{Index}
 use Rattle.validation_engine.proofs.Indexed.{IsKept, kept_added}
 use Rattle.validation_engine.proofs.Lines.{stands_kept, stands_wrote}

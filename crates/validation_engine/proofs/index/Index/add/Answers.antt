@@ -1,7 +1,7 @@
 use Rattle.std.proofs.Common.{is_some, Option, sym, ap, ◌∙◌}
 use Rattle.std.specs.FinMap.{get}
 use Rattle.std.proofs.lemmas.Result.{on_ok_weaker}
-use Rattle.site_tables.proofs.Looks.{get-lookup}
+use Rattle.site_tables.proofs.ForCallers.{get-lookup}
 use Rattle.validation_engine.specs.declared.index.Writers.{Writers}
 use Rattle.validation_engine.specs.Index.{Index}
 use Rattle.validation_engine.proofs.Entries.{added_there, added_new}

@@ -3,8 +3,8 @@ use Rattle.std.specs.FinMap.{from_entries, get}
 use Rattle.std.specs.Option.{option_copied_mut}
 use Rattle.mdb_base.specs.Names.{same_key}
 use Rattle.mdb_base.specs.Words.{map_some}
-use Rattle.run_book.proofs.HeldBy.{some-found}
-use Rattle.site_tables.proofs.Looks.{get-lookup}
+use Rattle.run_book.proofs.ForCallers.{some-found}
+use Rattle.site_tables.proofs.ForCallers.{get-lookup}
 use Rattle.validation_engine.specs.Index.{Index, changed_by}
 use Rattle.validation_engine.proofs.Entries.{change_there, change_none}
 use Rattle.validation_engine.proofs.index.Index.change_at.Goals as goal

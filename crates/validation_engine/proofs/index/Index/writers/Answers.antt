@@ -2,7 +2,7 @@ use Rattle.std.proofs.Common.{Option, sym, ap, ◌∙◌}
 use Rattle.std.specs.FinMap.{get}
 use Rattle.std.specs.Option.{option_copied}
 use Rattle.mdb_base.specs.Words.{or_else}
-use Rattle.site_tables.proofs.Looks.{get-lookup}
+use Rattle.site_tables.proofs.ForCallers.{get-lookup}
 use Rattle.validation_engine.specs.declared.index.Writers.{Writers}
 use Rattle.validation_engine.specs.Index.{Index, nobody}
 use Rattle.validation_engine.proofs.index.Index.writers.Goals as goal

@@ -1,4 +1,4 @@
-use Rattle.fed_world.proofs.FewCommands.{are_empty}
+use Rattle.fed_world.proofs.ForCallers.{are_empty}
 use Rattle.world_tests.proofs.worlds.failing.fails.Goals as goal
 
 pub new-requires-clause-empty : goal.new-requires-clause-empty

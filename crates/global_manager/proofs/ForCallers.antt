@@ -1,0 +1,2 @@
+-- What callers cite of the global transaction manager.
+pub use Rattle.global_manager.proofs.Fit.{recalled}

@@ -1,0 +1,3 @@
+-- What callers cite of disks, frames and their digests.
+pub use Rattle.journal_disk.proofs.Scan.{frames_push, frames_size_push, right_push}
+pub use Rattle.journal_disk.proofs.Whole.{cut_frame, length-digest_of, no_other, one_frame, one_place, one_reading, payload_is, whole_left, written_is_frame}

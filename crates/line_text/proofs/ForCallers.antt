@@ -1,0 +1,2 @@
+-- What callers cite of lines as text.
+pub use Rattle.line_text.proofs.Written.{line_parts}
