@@ -273,6 +273,11 @@ module _ {E : Type 0} (stands : E → Lines.Start → List EngineLine → Type 0
   held_here core home past tid h up there =
       made_held home past tid h.made (listed_some (doubt_of (Past.records home past) tid) (sym (ap is_some ((is_up_at stands core home past h.memory up).doubts tid)) ∙ there))
 
+  -- what is held has an entry
+  pub held_entered : (core : SiteCore E) (home : Home) (past : SitePast) (tid : Tid) → Holds stands core home past → core.store.standing ≡ Up → IsHeld home past tid → is_some (progress_of core.book tid) ≡ true
+  held_entered core home past tid h up held =
+      ap is_some ((is_up_at stands core home past h.memory up).notes.follows.attempts tid ∙ ap (λ (o : Option Run). progress_by o (is_closed past tid)) held.sealed.0)
+
   pub not_held : (core : SiteCore E) (home : Home) (past : SitePast) (tid : Tid) → Holds stands core home past → core.store.standing ≡ Up → is_some (doubt_about tid core.doubts.doubts) ≡ false
       → doubt_of (Past.records home past) tid ≡ None
   not_held core home past tid h up none = none_doubted (doubt_of (Past.records home past) tid) (sym ((is_up_at stands core home past h.memory up).doubts tid) ∙ nothing_is (doubt_about tid core.doubts.doubts) none)

@@ -1,11 +1,12 @@
-use Rattle.std.proofs.Common.{ℕ, None, refl, ap, ◌∙◌}
+use Rattle.std.proofs.Common.{ℕ, None, is_some, refl, ap, ◌∙◌}
 use Rattle.fed_rules.specs.declared.answers.Answer.TheVariants as Say
 use Rattle.fed_rules.specs.declared.events.SiteStep.{SiteStep}
 use Rattle.fed_rules.specs.SitePast.{disk, engine_lines, epoch_start, trip}
 use Rattle.actor_store.proofs.ForCallers.{from_done, from_failed, from_kept, from_stopped}
+use Rattle.site_book.specs.Book.{progress_of}
 use Rattle.site_core.specs.declared.site.SiteCore.{SiteCore}
 use Rattle.site_core.proofs.CheckLaws.{roomier}
-use Rattle.site_core.proofs.DecideLaws.{held_here, settle_done, settle_failed, settle_stopped, written_engine}
+use Rattle.site_core.proofs.DecideLaws.{held_entered, held_here, settle_done, settle_failed, settle_stopped, written_engine}
 use Rattle.site_core.proofs.RememberLaws.{is_up_at}
 use Rattle.site_core.proofs.site.SiteCore.settle.Goals as goal
 
@@ -30,6 +31,13 @@ end_run-requires g c =
       stood = written_engine g.E.LocalEngine.stands core c.write.new.self (epoch_start m.home m.past) (engine_lines m.past) c.write.ensures.rest u.engine;
       holds = record { run = h.run; number = h.held.number; sealed = h.sealed };
     }
+
+pub close-requires : goal.close-requires
+close-requires g c =
+    let m = c.requires.may in
+    let core = c.args.self.now in
+    ap (λ (x : SiteCore _). is_some (progress_of x.book c.args.tid)) c.write.ensures.rest
+    ∙ held_entered g.E.LocalEngine.stands core m.home m.past c.args.tid m.stood.holds c.requires.up (held_here g.E.LocalEngine.stands core m.home m.past c.args.tid m.stood.holds c.requires.up c.requires.doubtful)
 
 pub returns-in-Ok-write-clause-answered : goal.returns-in-Ok-write-clause-answered
 returns-in-Ok-write-clause-answered g c = λ home past k may.
