@@ -25,6 +25,9 @@ pub passes_none : (set : Option SetTrip) → IsArmed set → Passes (map_some tr
 passes_none None armed = tt
 passes_none (Some set) armed = armed
 
+pub some_trip : (a b : Trip) → ◌≡◌ {A = Option Trip} (Some a) (Some b) → a ≡ b
+some_trip a b e = cc
+
 module _ {R : Type 0} (frame_bytes : R → ℕ) where
   -- the last call of a trip was made, or not
   pub counts_end : {A : Type 0} (K : Disk R → Option Trip → Type 0) (rules : Disk R) (trip : Option Trip) (call : Call R) (r : Result A Break)
@@ -36,9 +39,6 @@ module _ {R : Type 0} (frame_bytes : R → ℕ) where
       let s = subst P (sym one) k in
       (set, is, omega arith, s.0, s.1)
   counts_end K rules trip call (Err Failed) c = absurd c
-
-  some_trip : (a b : Trip) → ◌≡◌ {A = Option Trip} (Some a) (Some b) → a ≡ b
-  some_trip a b e = cc
 
   -- what two lists of calls leave
   pub after_calls-append : (rules : Disk R) (first more : List (Call R)) → after_calls frame_bytes rules (first ++ more) ≡ after_calls frame_bytes (after_calls frame_bytes rules first) more

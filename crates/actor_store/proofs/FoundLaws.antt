@@ -128,7 +128,7 @@ module _ {R : Type 0} (spelling : R → List ℕ) (is_record : R → Type 0) (fr
   whole_respelled image entries whole =
       let shape = entry_frame spelling in
       let long = spelled_size shape entries in
-      let seen : Seen = record { image = image; size = length image.bytes; spare = 0; faults = 0 } in
+      let seen : Seen = record { image = image; size = length image.bytes; spare = 0; faults = 0; calls = 0 } in
       let journal : Kept R = record { entries = entries; is_torn = ltb long (length image.bytes); places = 0; room = 0 } in
       let kept : IsKeptOn spelling true seen journal = record {
         records = λ t. whole;

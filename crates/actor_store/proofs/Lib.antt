@@ -5,6 +5,7 @@ mod EndsLaws
 mod FoundLaws
 mod TrimLaws
 mod NewLaws
+mod CalledLaws
 mod TripLaws
 mod BehindLaws
 mod FromLaws

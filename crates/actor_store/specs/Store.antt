@@ -4,7 +4,7 @@ use Rattle.std.specs.List.{AllByRecursion}
 use Rattle.mdb_base.specs.Words.{map_some}
 use Rattle.fed_rules.specs.Disk.{Call, Append, CutBack, Stops, Disk, after_call, after_calls, is_torn, journal as journal_of}
 use Rattle.fed_rules.specs.Happenings.{Trip, used}
-use Rattle.journal_disk.specs.Disk.{Image, Seen, all_synced}
+use Rattle.journal_disk.specs.Disk.{HasCalled, HasCalledAtMost, Image, Seen, all_synced, reads}
 use Rattle.frame_journal.specs.Journal.{Kept, IsKeptOn}
 use Rattle.frame_journal.specs.Records.{Entry, AreRecordsOf, as_written, entry_frame, spelled_size, values}
 use Rattle.journal_rules.specs.Stands.{StandsFor, record_frame, respelled}
@@ -203,3 +203,20 @@ writes (call ∷ calls) = writes calls
 -- the calls by which a start cuts a torn rest back
 abbrev pub cut_calls : {R : Type 0} → (R → ℕ) → Disk R → List (Call R)
 cut_calls frame_bytes rules = cond (is_torn frame_bytes rules) (CutBack ∷ []) []
+
+-- ---- how many calls the disk gets
+
+-- where nothing is torn, a start behind a failed call cuts back too. The rules don't have this call
+abbrev pub uncounted : {R : Type 0} → Stored R → ℕ
+uncounted store = cond store.journal.is_torn 0 (cond (is_failing store.standing) 1 0)
+
+-- how often a disk of so many bytes is read again: one whose journal was just found isn't
+abbrev pub reloads : (is_fresh : Bool) → ℕ → ℕ
+reloads is_fresh size = cond is_fresh 0 (reads size)
+
+-- how many calls that can fail the disk had where these of the rules end so, and so many beside them: each of these once; those before the trip
+-- in force; or at most so many, where one failed
+abbrev pub Called : {A R : Type 0} → ℕ → Option Trip → List (Call R) → Seen → Seen → Result A Break → Type 0
+Called beside trip calls old new (Ok done) = HasCalled (beside + length calls) old new
+Called beside trip calls old new (Err (Stopped kept)) = (set : Trip) × (trip ≡ Some set) × HasCalled (beside + set.calls) old new
+Called beside trip calls old new (Err Failed) = HasCalledAtMost (beside + length calls) old new

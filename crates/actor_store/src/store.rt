@@ -3,9 +3,10 @@ ghost use Rattle.std.specs.Prelude.{◌≡◌, ◌≤◌, ◌<◌, ◌+◌, [], 
 ghost use Rattle.mdb_base.specs.Counts.{HasCauseOf};
 ghost use Rattle.fed_rules.specs.Disk.{Append, CutBack, Sync, TrimFront, Disk as RulesDisk, after_calls};
 ghost use Rattle.fed_rules.specs.Happenings.{Trip as RulesTrip};
+ghost use Rattle.journal_disk.specs.Disk.{HasCalled, TakesCalls, reads};
 ghost use Rattle.frame_journal.specs.Journal.{EndsWith, HasRoom, new_journal, records, with_entry, with_room_for, written_size};
 ghost use Rattle.journal_disk.specs.Frames.{IsPayload};
-ghost use Rattle.actor_store.specs.Store.{Counts, Ends, IsFoundBehind, KeepsBehind, Old, SomeFound, SomeKeptBehind, StopsWith, cut_calls, is_failing, is_up, old_standing, stored, trip_to};
+ghost use Rattle.actor_store.specs.Store.{Called, Counts, Ends, IsFoundBehind, KeepsBehind, Old, SomeFound, SomeKeptBehind, StopsWith, cut_calls, is_failing, is_up, old_standing, reloads, stored, trip_to, uncounted};
 
 use crate::errors::StepErr;
 use frame_journal::{Format, Journal};
@@ -72,6 +73,7 @@ impl<R: Drop, F: Format<R>> Store<R, F> {
         ensures down { IfOk result (λ store. store.standing ≡ Standing.Down) }
         ensures image { (D.seen disk.new).image ≡ (D.seen disk.old).image }
         ensures size { (D.seen disk.new).size ≡ (D.seen disk.old).size }
+        ensures called { TakesCalls (reads (D.seen disk.old).size) (D.seen disk.old) (D.seen disk.new) result }
         ensures cause { HasCauseOf StepErr.Disk (D.seen disk.old).faults (D.seen disk.new).faults result }
     {
         match Journal::load(alloc, disk) {
@@ -121,6 +123,7 @@ impl<R: Drop, F: Format<R>> Store<R, F> {
         ensures stops { (old : Old R) (rules : RulesDisk R) (trip : Option RulesTrip) → KeepsBehind F.spelling F.is_record F.frame_bytes D.tells (D.seen disk.old) (stored self.old) old rules trip
             → StopsWith F.frame_bytes (KeepsBehind F.spelling F.is_record F.frame_bytes D.tells (D.seen disk.new) (stored self.new) old) rules cut result }
         ensures down { self.new.standing ≡ Standing.Down }
+        ensures called { (D.seen disk.new).calls ≡ (D.seen disk.old).calls }
         ensures faults { (D.seen disk.new).faults ≡ (D.seen disk.old).faults }
     {
         self.trip = None;
@@ -138,6 +141,7 @@ impl<R: Drop, F: Format<R>> Store<R, F> {
         ensures journal { OnOk result (self.new.journal ≡ self.old.journal) }
         ensures standing { OnOk result (self.new.standing ≡ self.old.standing) }
         ensures down { OnErr result (is_up self.new.standing ≡ false) }
+        ensures called { (D.seen disk.new).calls ≡ (D.seen disk.old).calls }
         ensures cause { HasCauseOf Break.Failed (D.seen disk.old).faults (D.seen disk.new).faults result }
     {
         match self.trip {
@@ -172,6 +176,7 @@ impl<R: Drop, F: Format<R>> Store<R, F> {
         ensures memory { OnErr result (self.new.journal ≡ self.old.journal) }
         ensures standing { self.new.standing ≡ self.old.standing }
         ensures image { (D.seen disk.new).image ≡ (D.seen disk.old).image }
+        ensures called { (D.seen disk.new).calls ≡ (D.seen disk.old).calls }
         ensures faults { (D.seen disk.new).faults ≡ (D.seen disk.old).faults }
     {
         self.journal.make_room(alloc, disk, places, bytes)
@@ -187,6 +192,7 @@ impl<R: Drop, F: Format<R>> Store<R, F> {
         ensures journal { OnOk result (self.new.journal ≡ record self.old.journal { is_torn = false }) }
         ensures standing { OnOk result (self.new.standing ≡ Standing.Up) }
         ensures down { OnErr result (is_up self.new.standing ≡ false) }
+        ensures called { HasCalled 1 (D.seen disk.old) (D.seen disk.new) }
         ensures cause { HasCauseOf Break.Failed (D.seen disk.old).faults (D.seen disk.new).faults result }
     {
         match self.journal.cut(disk) {
@@ -213,6 +219,7 @@ impl<R: Drop, F: Format<R>> Store<R, F> {
         ensures journal { OnOk result (self.new.journal ≡ record self.old.journal { is_torn = false }) }
         ensures standing { OnOk result (self.new.standing ≡ Standing.Up) }
         ensures down { OnErr result (is_up self.new.standing ≡ false) }
+        ensures called { HasCalled (uncounted (stored self.old)) (D.seen disk.old) (D.seen disk.new) }
         ensures cause { HasCauseOf Break.Failed (D.seen disk.old).faults (D.seen disk.new).faults result }
     {
         if let Standing::Down = self.standing {
@@ -242,6 +249,8 @@ impl<R: Drop, F: Format<R>> Store<R, F> {
         ensures journal { OnOk result (self.new.journal ≡ record self.old.journal { is_torn = false }) }
         ensures standing { OnOk result (self.new.standing ≡ Standing.Up) }
         ensures down { OnErr result (is_up self.new.standing ≡ false) }
+        ensures called { (old : Old R) (rules : RulesDisk R) (trip : Option RulesTrip) → KeepsBehind F.spelling F.is_record F.frame_bytes D.tells (D.seen disk.old) (stored self.old) old rules trip
+            → Called (uncounted (stored self.old)) trip (cut_calls F.frame_bytes rules) (D.seen disk.old) (D.seen disk.new) result }
         ensures cause { HasCauseOf Break.Failed (D.seen disk.old).faults (D.seen disk.new).faults result }
     {
         if self.journal.is_torn() {
@@ -263,6 +272,7 @@ impl<R: Drop, F: Format<R>> Store<R, F> {
         ensures standing { self.new.standing ≡ self.old.standing }
         ensures trip { self.new.trip ≡ self.old.trip }
         ensures image { (D.seen disk.new).image ≡ (D.seen disk.old).image }
+        ensures called { TakesCalls (reloads self.old.is_fresh (D.seen disk.old).size) (D.seen disk.old) (D.seen disk.new) result }
         ensures cause { HasCauseOf StepErr.Disk (D.seen disk.old).faults (D.seen disk.new).faults result }
     {
         if self.is_fresh {
@@ -294,6 +304,7 @@ impl<R: Drop, F: Format<R>> Store<R, F> {
         ensures journal { OnOk result (self.new.journal ≡ with_entry F.spelling entry self.old.journal) }
         ensures standing { OnOk result (self.new.standing ≡ Standing.Up) }
         ensures down { OnErr result (is_up self.new.standing ≡ false) }
+        ensures called { HasCalled 1 (D.seen disk.old) (D.seen disk.new) }
         ensures cause { HasCauseOf Break.Failed (D.seen disk.old).faults (D.seen disk.new).faults result }
     {
         match self.journal.note(disk, entry) {
@@ -316,6 +327,7 @@ impl<R: Drop, F: Format<R>> Store<R, F> {
         ensures journal { OnOk result (self.new.journal ≡ self.old.journal) }
         ensures standing { OnOk result (self.new.standing ≡ Standing.Up) }
         ensures down { OnErr result (is_up self.new.standing ≡ false) }
+        ensures called { HasCalled 1 (D.seen disk.old) (D.seen disk.new) }
         ensures cause { HasCauseOf Break.Failed (D.seen disk.old).faults (D.seen disk.new).faults result }
     {
         match disk.sync() {
@@ -341,6 +353,8 @@ impl<R: Drop, F: Format<R>> Store<R, F> {
         ensures journal { OnOk result (self.new.journal ≡ with_entry F.spelling entry self.old.journal) }
         ensures standing { OnOk result (self.new.standing ≡ Standing.Up) }
         ensures down { OnErr result (is_up self.new.standing ≡ false) }
+        ensures called { (old : Old R) (rules : RulesDisk R) (trip : Option RulesTrip) → KeepsBehind F.spelling F.is_record F.frame_bytes D.tells (D.seen disk.old) (stored self.old) old rules trip
+            → Called 0 trip (Append entry ∷ Sync ∷ []) (D.seen disk.old) (D.seen disk.new) result }
         ensures cause { HasCauseOf Break.Failed (D.seen disk.old).faults (D.seen disk.new).faults result }
     {
         match self.append(disk, entry) {
@@ -359,6 +373,7 @@ impl<R: Drop, F: Format<R>> Store<R, F> {
             → rules.synced ≡ rules.length → length (old_standing old rules) < length self.old.journal.entries → Ends F.frame_bytes (KeepsBehind F.spelling F.is_record F.frame_bytes D.tells (D.seen disk.new) (stored self.new) old) rules trip (TrimFront ∷ []) result }
         ensures standing { OnOk result (self.new.standing ≡ Standing.Up) }
         ensures down { OnErr result (is_up self.new.standing ≡ false) }
+        ensures called { HasCalled 1 (D.seen disk.old) (D.seen disk.new) }
         ensures cause { HasCauseOf Break.Failed (D.seen disk.old).faults (D.seen disk.new).faults result }
     {
         match self.journal.trim(disk) {
@@ -384,6 +399,8 @@ impl<R: Drop, F: Format<R>> Store<R, F> {
             → Ends F.frame_bytes (KeepsBehind F.spelling F.is_record F.frame_bytes D.tells (D.seen disk.new) (stored self.new) old) rules trip (Append entry ∷ Sync ∷ TrimFront ∷ []) result }
         ensures standing { OnOk result (self.new.standing ≡ Standing.Up) }
         ensures down { OnErr result (is_up self.new.standing ≡ false) }
+        ensures called { (old : Old R) (rules : RulesDisk R) (trip : Option RulesTrip) → KeepsBehind F.spelling F.is_record F.frame_bytes D.tells (D.seen disk.old) (stored self.old) old rules trip
+            → Called 0 trip (Append entry ∷ Sync ∷ TrimFront ∷ []) (D.seen disk.old) (D.seen disk.new) result }
         ensures cause { HasCauseOf Break.Failed (D.seen disk.old).faults (D.seen disk.new).faults result }
     {
         match self.force(disk, entry) {
@@ -404,6 +421,8 @@ impl<R: Drop, F: Format<R>> Store<R, F> {
             → Ends F.frame_bytes (KeepsBehind F.spelling F.is_record F.frame_bytes D.tells (D.seen disk.new) (stored self.new) old) rules trip (cut_calls F.frame_bytes rules ++ Append entry ∷ Sync ∷ []) result }
         ensures standing { OnOk result (self.new.standing ≡ Standing.Up) }
         ensures down { OnErr result (is_up self.new.standing ≡ false) }
+        ensures called { (old : Old R) (rules : RulesDisk R) (trip : Option RulesTrip) → KeepsBehind F.spelling F.is_record F.frame_bytes D.tells (D.seen disk.old) (stored self.old) old rules trip
+            → Called (uncounted (stored self.old)) trip (cut_calls F.frame_bytes rules ++ Append entry ∷ Sync ∷ []) (D.seen disk.old) (D.seen disk.new) result }
         ensures cause { HasCauseOf Break.Failed (D.seen disk.old).faults (D.seen disk.new).faults result }
     {
         match self.open(disk) {

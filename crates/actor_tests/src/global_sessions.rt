@@ -1,4 +1,5 @@
 //! Sessions of a coordinator: what it answers and sends, where the sites say what the scripts say.
+mod calls;
 mod faults;
 mod kept;
 mod large;

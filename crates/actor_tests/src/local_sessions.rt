@@ -7,6 +7,7 @@ ghost use Rattle.site_core.specs.Made.{about};
 ghost use Rattle.actor_tests.specs.LocalSessions.{IsAbout, IsApart, IsAskAbout, IsOfLines};
 
 mod again;
+mod calls;
 mod faults;
 mod large;
 mod reopened;

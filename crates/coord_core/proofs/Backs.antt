@@ -1,5 +1,5 @@
 -- The start of a coordinator that is down: it comes through, or a trip stops it, or a disk call fails.
-use Rattle.std.proofs.Common.{◌≡◌, ℕ, zero, suc, ◌+◌, ◌≤◌, Bool, true, false, cond, not, Option, None, Err, List, [], ◌∷◌, ◌++◌, length, min, take, refl, sym, ap, ap₂, subst, ◌∙◌, arith, inl, inr}
+use Rattle.std.proofs.Common.{◌≡◌, ℕ, zero, suc, ◌+◌, ◌≤◌, ◌⊎◌, Bool, true, false, cond, not, Option, None, Err, List, [], ◌∷◌, ◌++◌, length, min, take, refl, sym, ap, ap₂, subst, ◌∙◌, arith, inl, inr}
 use Rattle.mdb_base.specs.declared.names.Tx.{Tx}
 use Rattle.mdb_base.specs.Words.{how_many, when}
 use Rattle.presumptions.specs.declared.Participant.{Participant}
@@ -16,20 +16,22 @@ use Rattle.fed_rules.specs.CoordRecords.{coord_frame, is_kept, recorded}
 use Rattle.fed_rules.specs.Policies.{Policy}
 use Rattle.rules_laws.proofs.ForCallers.{none_lost, whole_all}
 use Rattle.coord_laws.proofs.ForCallers.{any_member, past_sound}
-use Rattle.journal_disk.specs.Disk.{Seen}
+use Rattle.journal_disk.specs.Disk.{HasCalled, HasCalledAtMost, Seen}
+use Rattle.journal_rules.specs.Calls.{can_fail}
 use Rattle.actor_store.specs.declared.errors.StepErr.TheVariants as Err_is
 use Rattle.actor_store.specs.declared.store.Break.TheVariants.{Stopped, Failed}
 use Rattle.actor_store.specs.declared.store.Standing.{Standing}
 use Rattle.actor_store.specs.declared.store.Standing.TheVariants.{Up, Down, Failing}
-use Rattle.actor_store.specs.Store.{Ends, IsInOrder, Passes, cut_calls, is_up}
-use Rattle.actor_store.proofs.ForCallers.{from_later, from_trip}
+use Rattle.actor_store.specs.Store.{Called, Ends, IsInOrder, Passes, cut_calls, is_up}
+use Rattle.actor_store.proofs.ForCallers.{called_stopped, from_later, from_trip}
 use Rattle.coord_core.specs.declared.coord.CoordCore.{CoordCore}
 use Rattle.coord_tables.specs.Trees.{noted}
 use Rattle.coord_core.specs.Found.{opens, was_found}
-use Rattle.coord_core.specs.Stands.{Fails, Stands, Steps, StopsBefore, StopsWithin, TablesStand}
+use Rattle.coord_core.specs.Stands.{Fails, Stands, Steps, StopsBefore, StopsWithin, TablesStand, calls_for}
 use Rattle.coord_core.specs.Store.{Keeps, Store}
 use Rattle.coord_tables.specs.Tables.{IsServing}
 use Rattle.coord_tables.specs.Terms.{Terms, IsSound, line_of}
+use Rattle.coord_core.proofs.CalledLaws.{few_for, start_calls}
 use Rattle.coord_core.proofs.Endings.{passes_is, stop_prints, trip_line, trips_is}
 use Rattle.coord_core.proofs.Events.{down_line}
 use Rattle.coord_tables.proofs.ForCallers.{sound_more}
@@ -44,6 +46,13 @@ one_cut = CutBack ∷ []
 -- the disk calls of a start
 abbrev pub back_calls : CoordPast → List (Call CoordRecord)
 back_calls past = cut_calls coord_frame (Past.disk past)
+
+-- each of them can fail
+back_fail : (past : CoordPast) → can_fail (back_calls past) ≡ length (back_calls past)
+back_fail past = by_test (is_torn coord_frame (Past.disk past)) where
+  by_test : (b : Bool) → can_fail (cond b one_cut no_cut) ≡ length (cond b one_cut no_cut)
+  by_test true = refl
+  by_test false = refl
 
 -- the line of a start that knows so many
 abbrev pub up_line : ℕ → CoordPast → CoordHappening
@@ -160,12 +169,12 @@ module _ {P : Type 0} (test : P → Policy) (tells : Bool) where
   -- the records weren't read: the coordinator stays down, and the trip is disarmed
   pub read_failed : (old new : CoordCore P) (store : Store) (before after : Seen) (terms : Terms) (past : CoordPast) → Stands test tells old before terms past → is_up old.store.standing ≡ false
       → Keeps (was_found past) tells after store (Past.disk past) (Past.trip past) → store.standing ≡ old.store.standing → new ≡ record old { store = record store { trip = None } }
-      → Fails test tells Err_is.Disk new after terms past Ev.Back
-  read_failed old new store before after terms past k down kept standing same =
+      → (most : ℕ) → HasCalledAtMost most before after → Fails test tells most before Err_is.Disk new after terms past Ev.Back
+  read_failed old new store before after terms past k down kept standing same most few =
       let disarmed : Keeps (was_found past) tells after (record store { trip = None }) (Past.disk past) None = from_trip kept None refl tt in
       let core : CoordCore P = record old { store = record store { trip = None } } in
-      subst (λ (c : CoordCore P). Fails test tells Err_is.Disk c after terms past Ev.Back) (sym same)
-      (inl (stops_before core after terms past 0 k.holds.sound k.holds.protocols k.holds.policy k.holds.begun disarmed (ap is_up standing ∙ down) (down_is test tells old terms past k.holds down)))
+      subst (λ (c : CoordCore P). Fails test tells most before Err_is.Disk c after terms past Ev.Back) (sym same)
+      (inl (stops_before core after terms past 0 k.holds.sound k.holds.protocols k.holds.policy k.holds.begun disarmed (ap is_up standing ∙ down) (down_is test tells old terms past k.holds down)), few)
 
   module _ (old new : CoordCore P) (before after : Seen) (terms : Terms) (past : CoordPast) (k : Stands test tells old before terms past) (down : is_up old.store.standing ≡ false)
       (n : ℕ) (count : n ≡ how_many (is_kept terms.protocols (Past.records past)) (recorded (Past.records past)))
@@ -179,12 +188,13 @@ module _ {P : Type 0} (test : P → Policy) (tells : Bool) where
     -- it comes through
     pub back_done : (step : CoordStep) → Passes (Past.trip past) (length (back_calls past)) × Keeps (was_found past) tells after new.store (after_calls coord_frame (Past.disk past) (back_calls past)) (used (length (back_calls past)) (Past.trip past))
         → new.store.standing ≡ Up → IsServing new.tables terms (up_line n past ∷ past) → step.answer ≡ Say.UpCoord n → step.sends ≡ []
-        → Steps test tells step new after terms past (line_of terms past Ev.Back)
-    back_done step ends up serving said silent =
+        → (beside : ℕ) → HasCalled (beside + length (back_calls past)) before after → Steps test tells beside before step new after terms past (line_of terms past Ev.Back)
+    back_done step ends up serving said silent beside called =
         let x = up_line n past in
         let line : line_of terms past Ev.Back ≡ x = back_down terms past is ∙ ap (unless_tripped past) (back_is terms past n count) ∙ passes_is past x ends.0 in
         let T : Standing → Type 0 = λ s. TablesStand new.tables s terms (x ∷ past) in
-        subst (λ (y : CoordHappening). Steps test tells step new after terms past y) (sym line)
+        let H : ℕ → Type 0 = λ m. HasCalled (beside + m) before after in
+        subst (λ (y : CoordHappening). Steps test tells beside before step new after terms past y) (sym line)
         (record {
           answer = said;
           sends = silent;
@@ -202,37 +212,40 @@ module _ {P : Type 0} (test : P → Policy) (tells : Bool) where
             };
             stored = from_later (opens x) ends.1;
           };
+          called = subst H (sym (back_fail past)) called;
         })
 
     -- the trip comes within its calls
     pub back_stopped : (step : CoordStep) (kept : ℕ) → Ends {A = ℕ} coord_frame (Keeps (was_found past) tells after new.store) (Past.disk past) (Past.trip past) (back_calls past) (Err (Stopped kept))
-        → is_up new.store.standing ≡ false → step.answer ≡ Say.Stopped kept → step.sends ≡ [] → Steps test tells step new after terms past (line_of terms past Ev.Back)
-    back_stopped step kept (s, set, few, keeps, count_kept) off said silent =
+        → is_up new.store.standing ≡ false → step.answer ≡ Say.Stopped kept → step.sends ≡ []
+        → (beside : ℕ) → Called {A = ℕ} beside (Past.trip past) (back_calls past) before after (Err (Stopped kept)) → Steps test tells beside before step new after terms past (line_of terms past Ev.Back)
+    back_stopped step kept (s, set, few, keeps, count_kept) off said silent beside called =
         let x = up_line n past in
         let stop = take s.calls x.calls ++ Stops s.cut ∷ [] in
         let line : line_of terms past Ev.Back ≡ stop_line past Ev.Back stop =
         back_down terms past is ∙ ap (unless_tripped past) (back_is terms past n count) ∙ trips_is past x s set few in
-        subst (λ (y : CoordHappening). Steps test tells step new after terms past y) (sym line)
+        subst (λ (y : CoordHappening). Steps test tells beside before step new after terms past y) (sym line)
         (record {
           answer = stop_prints terms.protocols past Ev.Back stop kept step.answer said count_kept;
           sends = silent;
           stood = stands_stop test tells new after terms past Ev.Back stop line tt k.holds.sound (sites ∙ k.holds.protocols) (ap test policy ∙ k.holds.policy) noted_as keeps off;
+          called = called_stopped beside (Past.trip past) s (back_calls past) before after kept (back_fail past) set few called;
         })
 
-    -- a call fails
-    pub back_failed : Ends {A = ℕ} coord_frame (Keeps (was_found past) tells after new.store) (Past.disk past) (Past.trip past) (back_calls past) (Err Failed)
-        → is_up new.store.standing ≡ false → Fails test tells Err_is.Disk new after terms past Ev.Back
-    back_failed (m, cut, keeps) off = by_torn (is_torn coord_frame (Past.disk past)) refl m keeps where
+    -- what a failed call leaves
+    left_by_failure : Ends {A = ℕ} coord_frame (Keeps (was_found past) tells after new.store) (Past.disk past) (Past.trip past) (back_calls past) (Err Failed)
+        → is_up new.store.standing ≡ false → StopsBefore test tells new after terms past ⊎ StopsWithin test tells new after terms past Ev.Back
+    left_by_failure (m, cut, keeps) off = by_torn (is_torn coord_frame (Past.disk past)) refl m keeps where
       synced : (Past.disk past).synced ≡ (Past.disk past).length
       synced = settled old.store.standing old.store (Past.disk past) down k.stored.behind.in_order
 
-      before_it : Keeps (was_found past) tells after new.store (after_calls coord_frame (Past.disk past) (Stops cut ∷ [])) None → Fails test tells Err_is.Disk new after terms past Ev.Back
+      before_it : Keeps (was_found past) tells after new.store (after_calls coord_frame (Past.disk past) (Stops cut ∷ [])) None → StopsBefore test tells new after terms past ⊎ StopsWithin test tells new after terms past Ev.Back
       before_it j =
           let here = subst (λ (d : Disk CoordRecord). Keeps (was_found past) tells after new.store d None) (stop_same (Past.disk past) cut synced (all_within terms past k.holds.sound)) j in
           inl (stops_before new after terms past cut k.holds.sound (sites ∙ k.holds.protocols) (ap test policy ∙ k.holds.policy) noted_as here off is)
 
       by_torn : (b : Bool) → is_torn coord_frame (Past.disk past) ≡ b → (i : ℕ) → Keeps (was_found past) tells after new.store (after_calls coord_frame (Past.disk past) (take i (back_calls past) ++ Stops cut ∷ [])) None
-          → Fails test tells Err_is.Disk new after terms past Ev.Back
+          → StopsBefore test tells new after terms past ⊎ StopsWithin test tells new after terms past Ev.Back
       by_torn false e i j = before_it (subst (λ (cs : List (Call CoordRecord)). Keeps (was_found past) tells after new.store (after_calls coord_frame (Past.disk past) (cs ++ Stops cut ∷ [])) None) (ap (λ b. take i (cond b one_cut no_cut)) e ∙ nothing i) j) where
         nothing : (h : ℕ) → take h no_cut ≡ no_cut
         nothing zero = refl
@@ -247,3 +260,11 @@ module _ {P : Type 0} (test : P → Policy) (tells : Bool) where
           nothing_more : (h : ℕ) → take (suc h) one_cut ≡ one_cut
           nothing_more zero = refl
           nothing_more (suc h) = refl
+
+    -- a call fails
+    pub back_failed : Ends {A = ℕ} coord_frame (Keeps (was_found past) tells after new.store) (Past.disk past) (Past.trip past) (back_calls past) (Err Failed)
+        → is_up new.store.standing ≡ false
+        → (beside : ℕ) → HasCalledAtMost (beside + length (back_calls past)) before after → Fails test tells (beside + calls_for terms past Ev.Back) before Err_is.Disk new after terms past Ev.Back
+    back_failed ends off beside few =
+        let line = start_calls terms past (up_line n past) (back_is terms past n count) in
+        (left_by_failure ends off, few_for terms past Ev.Back beside (back_calls past) before after line few)

@@ -47,7 +47,7 @@ pub begun_steps : {P : Type 0} (test : P → Policy) (tells : Bool) (step : Coor
     → Stands test tells old seen terms past → old.store.standing ≡ Up → CanBegin tid steps terms past → HasVisited steps set → members ≡ participants_of old.protocols steps
     → HasBegun old.tables new.tables tid steps set members → new.protocols ≡ old.protocols → new.policy ≡ old.policy → new.store ≡ old.store
     → ((tx : Tx) → noted new.begun.listed tx ≡ cond (same_tx tid.tx tx) (tid.attempt + 1) (noted old.begun.listed tx))
-    → step.answer ≡ Say.Begun tid → step.sends ≡ map (send_due tid) (all_due (live.submitted tid steps)) → Steps test tells step new seen terms past (line_of terms past (Ev.Go tid steps))
+    → step.answer ≡ Say.Begun tid → step.sends ≡ map (send_due tid) (all_due (live.submitted tid steps)) → Steps test tells 0 seen step new seen terms past (line_of terms past (Ev.Go tid steps))
 begun_steps test tells step old new seen terms past tid steps set members k up can has are h sites policy store begun said sends =
     let dues = all_due (live.submitted tid steps) in
     let y = begun_line tid steps (map (send_due tid) dues) in

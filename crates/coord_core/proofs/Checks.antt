@@ -98,7 +98,7 @@ check_serving tables terms past sum s =
 module _ {P : Type 0} (test : P → Policy) (tells : Bool) where
   pub check_large : (step : CoordStep) (core : CoordCore P) (seen : Seen) (terms : Terms) (past : CoordPast) (sum : CoordSum) → Stands test tells core seen terms past → core.store.standing ≡ Up
       → sum ≡ coord_sum terms.protocols (Past.records past) → nat_lt longest (coord_payload (Rec.Checkpoint sum)) ≡ true → step.answer ≡ Say.Large → step.sends ≡ []
-      → Steps test tells step core seen terms past (line_of terms past Ev.Check)
+      → Steps test tells 0 seen step core seen terms past (line_of terms past Ev.Check)
   check_large step core seen terms past sum k up is large said silent =
       calm_steps test tells step core core seen terms past Ev.Check (quiet Ev.Check Say.Large) k up tt tt (large_is terms past sum is large) refl (quiet_calm Ev.Check Say.Large tt tt)
       (record { answer = said; sends = silent }) refl

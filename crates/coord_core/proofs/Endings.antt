@@ -1,5 +1,5 @@
 -- How a line ends whose tables stand already: all of its disk calls are made, or the trip comes within them, or one fails.
-use Rattle.std.proofs.Common.{◌≡◌, ℕ, zero, suc, ◌≤◌, ◌⊎◌, Bool, true, false, leb, not, Option, Some, None, Err, List, [], ◌∷◌, ◌++◌, length, take, refl, sym, ap, subst, ◌∙◌, arith, inl, inr}
+use Rattle.std.proofs.Common.{◌≡◌, ℕ, zero, suc, ◌+◌, ◌≤◌, ◌⊎◌, Bool, true, false, leb, not, Option, Some, None, Err, List, [], ◌∷◌, ◌++◌, length, take, refl, sym, ap, subst, ◌∙◌, arith, inl, inr}
 use Rattle.std.proofs.lemmas.Bool.{cases_lt, cond-false, le-leb, leb-true}
 use Rattle.mdb_base.specs.declared.names.Tx.{Tx}
 use Rattle.mdb_base.specs.Words.{when}
@@ -21,22 +21,25 @@ use Rattle.fed_rules.specs.CoordRecords.{coord_frame}
 use Rattle.fed_rules.specs.Policies.{Policy}
 use Rattle.fed_rules.specs.Right.{MayPrint}
 use Rattle.coord_laws.specs.Pasts.{IsNumbered}
-use Rattle.journal_disk.specs.Disk.{Seen}
+use Rattle.journal_disk.specs.Disk.{HasCalled, HasCalledAtMost, Seen}
+use Rattle.journal_disk.proofs.ForCallers.{no_call}
+use Rattle.journal_rules.specs.Calls.{can_fail}
 use Rattle.actor_store.specs.declared.errors.StepErr.TheVariants as Err_is
 use Rattle.actor_store.specs.declared.store.Break.TheVariants.{Stopped, Failed}
 use Rattle.actor_store.specs.declared.store.Standing.{Standing}
 use Rattle.actor_store.specs.declared.store.Standing.TheVariants.{Up}
-use Rattle.actor_store.specs.Store.{Ends, Passes, is_up, stopped_disk}
-use Rattle.actor_store.proofs.ForCallers.{from_later, passes_none, stopped_disk-all, used_none}
+use Rattle.actor_store.specs.Store.{Called, Ends, Passes, is_up, stopped_disk}
+use Rattle.actor_store.proofs.ForCallers.{called_stopped, from_later, passes_none, stopped_disk-all, used_none}
 use Rattle.coord_core.specs.declared.coord.CoordCore.{CoordCore}
 use Rattle.coord_tables.specs.declared.tables.Tables.{Tables}
 use Rattle.coord_tables.specs.Trees.{noted}
 use Rattle.coord_core.specs.Pending.{IsAnswered, IsPending, IsReady}
 use Rattle.coord_tables.specs.Terms.{IsSound, IsUsual, Terms, answer_of, line_of}
 use Rattle.coord_core.specs.Found.{opens, was_found}
-use Rattle.coord_core.specs.Stands.{Fails, Stands, Steps, StopsBefore, StopsWithin, TablesStand}
+use Rattle.coord_core.specs.Stands.{Fails, Stands, Steps, StopsBefore, StopsWithin, TablesStand, calls_for}
 use Rattle.coord_core.specs.Store.{Keeps}
 use Rattle.coord_tables.proofs.ForCallers.{attempts_same, sound_more}
+use Rattle.coord_core.proofs.CalledLaws.{called_quiet, few_for}
 use Rattle.coord_core.proofs.Still.{kept_records, stands_stop, stop_line, stopped_is}
 use Rattle.coord_core.proofs.Trips.{trip_hidden}
 
@@ -167,7 +170,8 @@ module _ {P : Type 0} (test : P → Policy) (tells : Bool) (terms : Terms) (past
 
     -- a call failed
     pub fails_by : (event : CoordEvent) (x : CoordHappening) → IsUsual event → answer_of terms past event ≡ x → x.event ≡ event → IsNumbered past event
-        → (n : ℕ) × (cut : ℕ) × Keeps (was_found past) tells seen core.store (stopped_disk coord_frame n cut (Past.disk past) x.calls) None → Fails test tells Err_is.Disk core seen terms past event
+        → (n : ℕ) × (cut : ℕ) × Keeps (was_found past) tells seen core.store (stopped_disk coord_frame n cut (Past.disk past) x.calls) None
+        → StopsBefore test tells core seen terms past ⊎ StopsWithin test tells core seen terms past event
     fails_by event x usual is heard numbered (n, cut, k) = elim (cases_lt (length x.calls) n) [
       | inl more ↦ few (length x.calls) (omega arith) (subst (λ (d : Disk CoordRecord). Keeps (was_found past) tells seen core.store d None) (stopped_disk-all coord_frame n cut (Past.disk past) x.calls (omega arith)) k)
       | inr less ↦ few n (omega arith) k
@@ -187,14 +191,14 @@ module _ {P : Type 0} (test : P → Policy) (tells : Bool) (step : CoordStep) (o
 
   -- all calls are made
   pub ends_made : Passes (Past.trip past) (length x.calls) → Keeps (was_found past) tells after new.store (after_calls coord_frame (Past.disk past) x.calls) (used (length x.calls) (Past.trip past))
-      → new.store.standing ≡ Up → Steps test tells step new after terms past (line_of terms past event)
-  ends_made passes kept up =
+      → new.store.standing ≡ Up → HasCalled (0 + can_fail x.calls) before after → Steps test tells 0 before step new after terms past (line_of terms past event)
+  ends_made passes kept up called =
       let is = line_is ∙ passes_is past x passes in
       let left : used (length x.calls) (Past.trip past) ≡ Past.trip (x ∷ past) =
       sym (cond-false _ _ _ a.goes ∙ ap (λ o. set o (used (length x.calls) (Past.trip past))) (ap trip_of a.heard ∙ usual_sets event a.usual)) in
       let k = subst (λ (t : Option Trip). Keeps (was_found past) tells after new.store (after_calls coord_frame (Past.disk past) x.calls) t) left kept in
       let T : Tables → Standing → Type 0 = λ t s. TablesStand t s terms (x ∷ past) in
-      subst (λ (y : CoordHappening). Steps test tells step new after terms past y) (sym is)
+      subst (λ (y : CoordHappening). Steps test tells 0 before step new after terms past y) (sym is)
       (record {
         answer = a.answer;
         sends = a.sends;
@@ -212,6 +216,7 @@ module _ {P : Type 0} (test : P → Policy) (tells : Bool) (step : CoordStep) (o
           };
           stored = from_later (opens x) k;
         };
+        called = called;
       })
 
 -- and whose disk calls are to be made
@@ -222,50 +227,57 @@ module _ {P : Type 0} (test : P → Policy) (tells : Bool) (calls : List (Call C
   begun_behind tx = ap (λ b. noted b.listed tx) begun ∙ p.ready.begun tx ∙ attempts_same past x p.none_begun tx
 
   pub pending_made : Passes (Past.trip past) (length calls) × Keeps (was_found past) tells after new.store (after_calls coord_frame (Past.disk past) calls) (used (length calls) (Past.trip past))
-      → new.store.standing ≡ Up → Steps test tells step new after terms past (line_of terms past event)
-  pending_made e up =
+      → new.store.standing ≡ Up → HasCalled (0 + can_fail calls) before after → Steps test tells 0 before step new after terms past (line_of terms past event)
+  pending_made e up called =
       let M : List (Call CoordRecord) → Type 0 = λ cs. Passes (Past.trip past) (length cs) × Keeps (was_found past) tells after new.store (after_calls coord_frame (Past.disk past) cs) (used (length cs) (Past.trip past)) in
       let m = subst M (sym p.makes) e in
-      ends_made test tells step old new before after terms past event x p.answered p.ready sites policy tables begun m.0 m.1 up
+      let H : List (Call CoordRecord) → Type 0 = λ cs. HasCalled (0 + can_fail cs) before after in
+      ends_made test tells step old new before after terms past event x p.answered p.ready sites policy tables begun m.0 m.1 up (subst H (sym p.makes) called)
 
   -- the trip comes within the calls
   pub pending_stopped : (ended : CoordStep) (kept : ℕ) → Ends {A = ℕ} coord_frame (Keeps (was_found past) tells after new.store) (Past.disk past) (Past.trip past) calls (Err (Stopped kept))
-      → is_up new.store.standing ≡ false → ended.answer ≡ Say.Stopped kept → ended.sends ≡ [] → Steps test tells ended new after terms past (line_of terms past event)
-  pending_stopped ended kept e down said silent =
+      → is_up new.store.standing ≡ false → ended.answer ≡ Say.Stopped kept → ended.sends ≡ []
+      → can_fail calls ≡ length calls → Called {A = ℕ} 0 (Past.trip past) calls before after (Err (Stopped kept)) → Steps test tells 0 before ended new after terms past (line_of terms past event)
+  pending_stopped ended kept e down said silent all called =
       let ends = subst (λ (cs : List (Call CoordRecord)). Ends {A = ℕ} coord_frame (Keeps (was_found past) tells after new.store) (Past.disk past) (Past.trip past) cs (Err (Stopped kept))) (sym p.makes) e in
       let (s, is, few, k, count) = ends in
+      let F : List (Call CoordRecord) → Type 0 = λ cs. can_fail cs ≡ length cs in
       let stop = take s.calls x.calls ++ Stops s.cut ∷ [] in
       let line : line_of terms past event ≡ stop_line past event stop =
       usual_line terms past event p.answered.usual p.ready.up ∙ ap (unless_tripped past) p.answered.line ∙ trips_is past x s is few ∙ ap (λ ev. stop_line past ev stop) p.answered.heard in
-      subst (λ (y : CoordHappening). Steps test tells ended new after terms past y) (sym line)
+      subst (λ (y : CoordHappening). Steps test tells 0 before ended new after terms past y) (sym line)
       (record {
         answer = stop_prints terms.protocols past event stop kept ended.answer said count;
         sends = silent;
         stood = stands_stop test tells new after terms past event stop line p.answered.numbered p.ready.sound (sites ∙ p.ready.protocols) (ap test policy ∙ p.ready.policy) begun_behind k down;
+        called = called_stopped 0 (Past.trip past) s x.calls before after kept (subst F (sym p.makes) all) is few called;
       })
 
   -- a call fails
   pub pending_failed : Ends {A = ℕ} coord_frame (Keeps (was_found past) tells after new.store) (Past.disk past) (Past.trip past) calls (Err Failed)
-      → is_up new.store.standing ≡ false → Fails test tells Err_is.Disk new after terms past event
-  pending_failed e down =
+      → is_up new.store.standing ≡ false → HasCalledAtMost (0 + length calls) before after → Fails test tells (0 + calls_for terms past event) before Err_is.Disk new after terms past event
+  pending_failed e down few =
       let ends = subst (λ (cs : List (Call CoordRecord)). Ends {A = ℕ} coord_frame (Keeps (was_found past) tells after new.store) (Past.disk past) (Past.trip past) cs (Err Failed)) (sym p.makes) e in
-      fails_by test tells terms past new after p.ready.sound p.ready.up (sites ∙ p.ready.protocols) (ap test policy ∙ p.ready.policy) begun_behind down
-      event x p.answered.usual p.answered.line p.answered.heard p.answered.numbered ends
+      (
+        fails_by test tells terms past new after p.ready.sound p.ready.up (sites ∙ p.ready.protocols) (ap test policy ∙ p.ready.policy) begun_behind down
+            event x p.answered.usual p.answered.line p.answered.heard p.answered.numbered ends,
+        few_for terms past event 0 calls before after (ap (λ (y : CoordHappening). y.calls) p.answered.line ∙ p.makes) few,
+      )
 
 -- a line that makes no disk call
 pub pending_quiet : {P : Type 0} (test : P → Policy) (tells : Bool) (step : CoordStep) (core : CoordCore P) (seen : Seen) (terms : Terms) (past : CoordPast) (event : CoordEvent) (x : CoordHappening)
-    → IsPending test tells [] step core seen terms past event x → core.store.standing ≡ Up → Steps test tells step core seen terms past (line_of terms past event)
+    → IsPending test tells [] step core seen terms past event x → core.store.standing ≡ Up → Steps test tells 0 seen step core seen terms past (line_of terms past event)
 pending_quiet test tells step core seen terms past event x p up =
     let passes : Passes (Past.trip past) 0 = subst (λ t. Passes t 0) p.ready.stored.behind.trip (passes_none core.store.trip p.ready.stored.behind.armed) in
     let kept : Keeps (was_found past) tells seen core.store (Past.disk past) (used 0 (Past.trip past)) = subst (λ (t : Option Trip). Keeps (was_found past) tells seen core.store (Past.disk past) t) (sym (used_none (Past.trip past))) p.ready.stored in
-    pending_made test tells [] step core core seen seen terms past event x p refl refl refl refl (passes, kept) up
+    pending_made test tells [] step core core seen seen terms past event x p refl refl refl refl (passes, kept) up (no_call seen seen refl)
 
 -- the same of a line that begins an attempt
 pub ready_quiet : {P : Type 0} (test : P → Policy) (tells : Bool) (step : CoordStep) (core : CoordCore P) (seen : Seen) (terms : Terms) (past : CoordPast) (event : CoordEvent) (x : CoordHappening)
-    → IsAnswered step terms past event x → IsReady test tells core seen terms past x → x.calls ≡ [] → core.store.standing ≡ Up → Steps test tells step core seen terms past (line_of terms past event)
+    → IsAnswered step terms past event x → IsReady test tells core seen terms past x → x.calls ≡ [] → core.store.standing ≡ Up → Steps test tells 0 seen step core seen terms past (line_of terms past event)
 ready_quiet test tells step core seen terms past event x a r none up =
     let M : List (Call CoordRecord) → Type 0 = λ cs. Passes (Past.trip past) (length cs) × Keeps (was_found past) tells seen core.store (after_calls coord_frame (Past.disk past) cs) (used (length cs) (Past.trip past)) in
     let passes : Passes (Past.trip past) 0 = subst (λ t. Passes t 0) r.stored.behind.trip (passes_none core.store.trip r.stored.behind.armed) in
     let kept : Keeps (was_found past) tells seen core.store (Past.disk past) (used 0 (Past.trip past)) = subst (λ (t : Option Trip). Keeps (was_found past) tells seen core.store (Past.disk past) t) (sym (used_none (Past.trip past))) r.stored in
     let m = subst M (sym none) (passes, kept) in
-    ends_made test tells step core core seen seen terms past event x a r refl refl refl refl m.0 m.1 up
+    ends_made test tells step core core seen seen terms past event x a r refl refl refl refl m.0 m.1 up (called_quiet x.calls seen seen none refl)

@@ -3,6 +3,7 @@ mod Aborts
 mod Acking
 mod Backs
 mod Beginnings
+mod CalledLaws
 mod Checks
 mod Committing
 mod Endings

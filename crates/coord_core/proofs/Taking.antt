@@ -42,7 +42,7 @@ counted_as test tells core seen terms past tid taken b k up among is =
 -- a reply that doesn't count
 pub ignored_steps : {P : Type 0} (test : P → Policy) (tells : Bool) (step : CoordStep) (core : CoordCore P) (seen : Seen) (terms : Terms) (past : CoordPast) (tid : Tid) (taken : Taken)
     → Stands test tells core seen terms past → core.store.standing ≡ Up → IsAmong taken.site terms.protocols → did_counts past taken.site tid taken.epoch taken.n taken.reply ≡ false
-    → step.answer ≡ Say.Ignored → step.sends ≡ [] → Steps test tells step core seen terms past (line_of terms past (reply_event tid taken))
+    → step.answer ≡ Say.Ignored → step.sends ≡ [] → Steps test tells 0 seen step core seen terms past (line_of terms past (reply_event tid taken))
 ignored_steps test tells step core seen terms past tid taken k up among off said silent =
     calm_steps test tells step core core seen terms past (reply_event tid taken) (quiet (reply_event tid taken) Say.Ignored) k up among tt
     (did_ignored terms past taken.site tid taken.epoch taken.n taken.reply off) refl (uncounted_calm (reply_event tid taken) Say.Ignored tt refl) (record { answer = said; sends = silent }) refl
@@ -110,7 +110,7 @@ inquiry_answered terms past site tid = refl
 
 pub inquiry_steps : {P : Type 0} (test : P → Policy) (tells : Bool) (step : CoordStep) (core : CoordCore P) (seen : Seen) (terms : Terms) (past : CoordPast) (site : SiteId) (tid : Tid)
     → Stands test tells core seen terms past → core.store.standing ≡ Up → IsAmong site terms.protocols → Says step (of_inquiry terms.protocols past site tid)
-    → Steps test tells step core seen terms past (line_of terms past (Ev.Take site (From.Inquiry tid)))
+    → Steps test tells 0 seen step core seen terms past (line_of terms past (Ev.Take site (From.Inquiry tid)))
 inquiry_steps test tells step core seen terms past site tid k up among says =
     let c = inquiry_calm terms.protocols past site tid in
     calm_steps test tells step core core seen terms past (Ev.Take site (From.Inquiry tid)) (of_inquiry terms.protocols past site tid) k up among tt (inquiry_answered terms past site tid) c.1 c.0 says refl

@@ -39,7 +39,7 @@ vote_counted_as test tells core seen terms past site tid b k up among is = sym (
 -- a vote that doesn't count
 pub ignored_vote_steps : {P : Type 0} (test : P → Policy) (tells : Bool) (step : CoordStep) (core : CoordCore P) (seen : Seen) (terms : Terms) (past : CoordPast) (site : SiteId) (tid : Tid) (vote : Option ℕ)
     → Stands test tells core seen terms past → core.store.standing ≡ Up → IsAmong site terms.protocols → vote_counts past site tid ≡ false
-    → step.answer ≡ Say.Ignored → step.sends ≡ [] → Steps test tells step core seen terms past (line_of terms past (vote_event site tid vote))
+    → step.answer ≡ Say.Ignored → step.sends ≡ [] → Steps test tells 0 seen step core seen terms past (line_of terms past (vote_event site tid vote))
 ignored_vote_steps test tells step core seen terms past site tid vote k up among off said silent =
     calm_steps test tells step core core seen terms past (vote_event site tid vote) (quiet (vote_event site tid vote) Say.Ignored) k up among tt
     (vote_ignored terms past site tid vote off) refl (uncounted_calm (vote_event site tid vote) Say.Ignored tt refl) (record { answer = said; sends = silent }) refl
@@ -49,7 +49,7 @@ pub vote_steps : {P : Type 0} (test : P → Policy) (tells : Bool) (step : Coord
     → Stands test tells old seen terms past → old.store.standing ≡ Up → CountsVote site tid terms past → last_tickets terms.protocols past site tid ticket ≡ None
     → new.protocols ≡ old.protocols → new.policy ≡ old.policy → new.begun ≡ old.begun → new.store ≡ old.store
     → new.tables ≡ record old.tables { known = changed tid (ends.after_vote site ticket) old.tables.known; exec = replaced (is_of tid) (voted site) old.tables.exec }
-    → step.answer ≡ Say.Voted → step.sends ≡ [] → Steps test tells step new seen terms past (line_of terms past (vote_event site tid (Some ticket)))
+    → step.answer ≡ Say.Voted → step.sends ≡ [] → Steps test tells 0 seen step new seen terms past (line_of terms past (vote_event site tid (Some ticket)))
 vote_steps test tells step old new seen terms past site tid ticket k up counted none sites policy begun store tables said silent =
     let s = serves test tells old terms past k.holds up in
     let x = quiet (vote_event site tid (Some ticket)) Say.Voted in

@@ -32,7 +32,7 @@ pub wait_steps : {P : Type 0} (test : P → Policy) (tells : Bool) (step : Coord
     → Stands test tells old seen terms past → old.store.standing ≡ Up → IsAmong site terms.protocols → did_counts past site tid epoch n (Reply_is.Wait by) ≡ true
     → new.protocols ≡ old.protocols → new.policy ≡ old.policy → new.begun ≡ old.begun → new.store ≡ old.store
     → new.tables ≡ record old.tables { exec = after_taken tid (Some (record { site = site; epoch = epoch; n = n; reply = Reply_is.Wait by })) old.tables.exec }
-    → step.answer ≡ Say.TookWaits → step.sends ≡ [] → Steps test tells step new seen terms past (line_of terms past (did_event site tid epoch n (Reply_is.Wait by)))
+    → step.answer ≡ Say.TookWaits → step.sends ≡ [] → Steps test tells 0 seen step new seen terms past (line_of terms past (did_event site tid epoch n (Reply_is.Wait by)))
 wait_steps test tells step old new seen terms past site tid epoch n by k up among c sites policy begun store tables said silent =
     let s = serves test tells old terms past k.holds up in
     let x = quiet (did_event site tid epoch n (Reply_is.Wait by)) Say.TookWaits in
@@ -67,10 +67,10 @@ pub wait_taken : {P : Type 0} (test : P → Policy) (tells : Bool) (step : Coord
     → taken.reply ≡ Reply_is.Wait by → Stands test tells old seen terms past → old.store.standing ≡ Up → CountsReply tid taken terms past
     → new.protocols ≡ old.protocols → new.policy ≡ old.policy → new.begun ≡ old.begun → new.store ≡ old.store
     → new.tables ≡ record old.tables { exec = after_taken tid (Some taken) old.tables.exec }
-    → step.answer ≡ Say.TookWaits → step.sends ≡ [] → Steps test tells step new seen terms past (line_of terms past (reply_event tid taken))
+    → step.answer ≡ Say.TookWaits → step.sends ≡ [] → Steps test tells 0 seen step new seen terms past (line_of terms past (reply_event tid taken))
 wait_taken test tells step old new seen terms past taken tid by is k up counts_it sites policy begun store tables said silent =
     let of : Reply → Taken = λ r. record { site = taken.site; epoch = taken.epoch; n = taken.n; reply = r } in
-    subst (λ (r : Reply). Steps test tells step new seen terms past (line_of terms past (reply_event tid (of r)))) (sym is)
+    subst (λ (r : Reply). Steps test tells 0 seen step new seen terms past (line_of terms past (reply_event tid (of r)))) (sym is)
     (wait_steps test tells step old new seen terms past taken.site tid taken.epoch taken.n by k up counts_it.among
     (subst (λ (r : Reply). did_counts past taken.site tid taken.epoch taken.n r ≡ true) is counts_it.counts) sites policy begun store
     (tables ∙ ap (λ (r : Reply). record old.tables { exec = after_taken tid (Some (of r)) old.tables.exec }) is) said silent)

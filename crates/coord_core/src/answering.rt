@@ -62,7 +62,7 @@ impl<P: TakePolicy> CoordCore<P> {
         requires up { self.old.store.standing ≡ Standing.Up }
         ensures answered { (tells : Bool) (seen : Seen) (terms : Terms) (past : CoordPast) (by : TheTid) → taken.reply ≡ Reply.Wait by
             → Stands P.policy tells self.old seen terms past → CountsReply tid taken terms past
-            → Steps P.policy tells result self.new seen terms past (line_of terms past (reply_event tid taken)) }
+            → Steps P.policy tells 0 seen result self.new seen terms past (line_of terms past (reply_event tid taken)) }
     {
         self.tables
             .exec

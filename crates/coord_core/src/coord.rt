@@ -74,7 +74,8 @@ impl<P: TakePolicy> CoordCore<P> {
 
     /// Answers the next event. Without memory neither the core nor the disk changes. Where a disk call fails, which comes only where the
     /// disk's count of faults rose, the coordinator is down, as after a stop before or within the event: behind the whole frames stand the
-    /// first bytes of the frame that it tore. It may be started again.
+    /// first bytes of the frame that it tore. It may be started again. The disk gets each disk call of the event once. A start reads it too,
+    /// and behind a failed call it cuts back where nothing is torn.
     pub fn step<D: Disk>(
         &mut self,
         alloc: Global,

@@ -1,10 +1,10 @@
 //! Decisions: what is recorded of one, and what is left of the attempt.
-ghost use Rattle.std.specs.Prelude.{◌≡◌, true, IfErr, IfOk, IsTrue};
+ghost use Rattle.std.specs.Prelude.{◌≡◌, ◌+◌, true, IfErr, IfOk, IsTrue};
 ghost use Rattle.mdb_base.specs.Counts.{HasCauseOf};
 ghost use Rattle.fed_rules.specs.declared.events.CoordEvent.{CoordEvent as TheEvent};
 ghost use Rattle.fed_rules.specs.CoordPast.{CoordPast, is_open};
 ghost use Rattle.coord_tables.specs.Deciding.{IsAborting};
-ghost use Rattle.coord_core.specs.Stands.{Fails, Stands, Steps};
+ghost use Rattle.coord_core.specs.Stands.{Fails, Stands, Steps, calls_for};
 ghost use Rattle.coord_core.specs.Steps.{CanStep, FailsOn, SomePast, StepsOn};
 ghost use Rattle.coord_tables.specs.Terms.{Terms, line_of};
 
@@ -32,9 +32,9 @@ impl<P: TakePolicy> CoordCore<P> {
         requires up { self.old.store.standing ≡ Standing.Up }
         requires may { SomePast (Stands P.policy D.tells self.old (D.seen disk.old)) (λ terms past. is_open past tid ≡ true) }
         ensures answered { IfOk result (λ step. (terms : Terms) (past : CoordPast) (event : TheEvent) → Stands P.policy D.tells self.old (D.seen disk.old) terms past
-            → IsAborting terms past event tid cause → Steps P.policy D.tells step self.new (D.seen disk.new) terms past (line_of terms past event)) }
+            → IsAborting terms past event tid cause → Steps P.policy D.tells 0 (D.seen disk.old) step self.new (D.seen disk.new) terms past (line_of terms past event)) }
         ensures failed { IfErr result (λ why. (terms : Terms) (past : CoordPast) (event : TheEvent) → Stands P.policy D.tells self.old (D.seen disk.old) terms past
-            → IsAborting terms past event tid cause → Fails P.policy D.tells why self.new (D.seen disk.new) terms past event) }
+            → IsAborting terms past event tid cause → Fails P.policy D.tells (0 + calls_for terms past event) (D.seen disk.old) why self.new (D.seen disk.new) terms past event) }
         ensures cause { HasCauseOf StepErr.Disk (D.seen disk.old).faults (D.seen disk.new).faults result }
     {
         let Ok(sends) = self.tables.decisions(alloc, tid, Decision::Abort) else {

@@ -1,5 +1,5 @@
 //! How a line ends whose tables stand already.
-ghost use Rattle.std.specs.Prelude.{◌≡◌, [], ◌∷◌, option_to_list, IfErr, IfOk, IfSome, IsTrue, OnOk};
+ghost use Rattle.std.specs.Prelude.{◌≡◌, ◌+◌, [], ◌∷◌, option_to_list, IfErr, IfOk, IfSome, IsTrue, OnOk};
 ghost use Rattle.mdb_base.specs.Counts.{HasCauseOf};
 ghost use Rattle.fed_rules.specs.declared.records.CoordRecord.{CoordRecord as TheRecord};
 ghost use Rattle.fed_rules.specs.Coord.{forced};
@@ -11,7 +11,7 @@ ghost use Rattle.frame_journal.specs.Journal.{HasRoom, written_size};
 ghost use Rattle.coord_journal.specs.Spelling.{InRange, spelling};
 ghost use Rattle.actor_store.specs.Store.{Old, SomeKeptBehind};
 ghost use Rattle.coord_core.specs.Pending.{EachLine, IsPending};
-ghost use Rattle.coord_core.specs.Stands.{Fails, Steps};
+ghost use Rattle.coord_core.specs.Stands.{Fails, Steps, calls_for};
 ghost use Rattle.coord_core.specs.Store.{KeepsBehind};
 ghost use Rattle.coord_tables.specs.Terms.{line_of};
 
@@ -38,6 +38,7 @@ pub(crate) fn room_for<D: Disk>(
         → KeepsBehind D.tells (D.seen disk.new) store.new old rules trip }
     ensures room { OnOk result (IfSome entry.now (λ entry. HasRoom (written_size spelling entry) store.new.journal)) }
     ensures standing { store.new.standing ≡ store.old.standing }
+    ensures called { (D.seen disk.new).calls ≡ (D.seen disk.old).calls }
     ensures faults { (D.seen disk.new).faults ≡ (D.seen disk.old).faults }
 {
     match entry {
@@ -66,9 +67,9 @@ impl<P: TakePolicy> CoordCore<P> {
         requires in_range { IfSome entry InRange }
         requires payload { IfSome entry (λ entry. IsPayload (spelling entry)) }
         ensures answered { IfOk result (λ ended. EachLine (IsPending P.policy D.tells (forced (option_to_list entry)) step self.old (D.seen disk.old))
-            (λ terms past event x. Steps P.policy D.tells ended self.new (D.seen disk.new) terms past (line_of terms past event))) }
+            (λ terms past event x. Steps P.policy D.tells 0 (D.seen disk.old) ended self.new (D.seen disk.new) terms past (line_of terms past event))) }
         ensures failed { IfErr result (λ why. EachLine (IsPending P.policy D.tells (forced (option_to_list entry)) step self.old (D.seen disk.old))
-            (λ terms past event x. Fails P.policy D.tells why self.new (D.seen disk.new) terms past event)) }
+            (λ terms past event x. Fails P.policy D.tells (0 + calls_for terms past event) (D.seen disk.old) why self.new (D.seen disk.new) terms past event)) }
         ensures cause { HasCauseOf StepErr.Disk (D.seen disk.old).faults (D.seen disk.new).faults result }
     {
         match entry {
@@ -97,9 +98,9 @@ impl<P: TakePolicy> CoordCore<P> {
         requires in_range { InRange entry }
         requires payload { IsPayload (spelling entry) }
         ensures answered { IfOk result (λ ended. EachLine (IsPending P.policy D.tells (Append entry ∷ []) step self.old (D.seen disk.old))
-            (λ terms past event x. Steps P.policy D.tells ended self.new (D.seen disk.new) terms past (line_of terms past event))) }
+            (λ terms past event x. Steps P.policy D.tells 0 (D.seen disk.old) ended self.new (D.seen disk.new) terms past (line_of terms past event))) }
         ensures failed { IfErr result (λ why. EachLine (IsPending P.policy D.tells (Append entry ∷ []) step self.old (D.seen disk.old))
-            (λ terms past event x. Fails P.policy D.tells why self.new (D.seen disk.new) terms past event)) }
+            (λ terms past event x. Fails P.policy D.tells (0 + calls_for terms past event) (D.seen disk.old) why self.new (D.seen disk.new) terms past event)) }
         ensures cause { HasCauseOf StepErr.Disk (D.seen disk.old).faults (D.seen disk.new).faults result }
     {
         match self.store.append(disk, entry) {

@@ -7,6 +7,7 @@ ghost use Rattle.record_fields.specs.Named.{IsSite};
 ghost use Rattle.fed_rules.specs.declared.records.CoordRecord.{CoordRecord};
 ghost use Rattle.fed_rules.specs.Found.{Journal};
 ghost use Rattle.fed_rules.specs.Reopened.{opened_coordinator};
+ghost use Rattle.journal_disk.specs.Disk.{TakesCalls, reads};
 ghost use Rattle.coord_core.specs.Found.{IsFoundOn, SomeJournal};
 ghost use Rattle.coord_core.specs.Stands.{Stands};
 
@@ -35,6 +36,7 @@ impl<P: TakePolicy> CoordCore<P> {
             → Stands P.policy D.tells core (D.seen disk.new) (record { protocols = protocols; policy = P.policy policy }) (opened_coordinator protocols journal)) }
         ensures image { (D.seen disk.new).image ≡ (D.seen disk.old).image }
         ensures size { (D.seen disk.new).size ≡ (D.seen disk.old).size }
+        ensures called { TakesCalls (reads (D.seen disk.old).size) (D.seen disk.old) (D.seen disk.new) result }
         ensures cause { HasCauseOf StepErr.Disk (D.seen disk.old).faults (D.seen disk.new).faults result }
     {
         let tables = Tables::new(alloc)?;

@@ -1,11 +1,11 @@
 //! What the coordinator sends of an undecided attempt: what is outstanding, but for Takes that the policy holds back.
-ghost use Rattle.std.specs.Prelude.{◌≡◌, true, IfErr, IfOk, IsTrue};
+ghost use Rattle.std.specs.Prelude.{◌≡◌, ◌+◌, true, IfErr, IfOk, IsTrue};
 ghost use Rattle.mdb_base.specs.Counts.{HasCauseOf};
 ghost use Rattle.fed_rules.specs.declared.events.CoordEvent.{CoordEvent as TheEvent};
 ghost use Rattle.fed_rules.specs.Coord.{may_take as rules_may_take};
 ghost use Rattle.fed_rules.specs.CoordPast.{CoordPast, is_open};
 ghost use Rattle.coord_tables.specs.Sending.{HoldsTheSame, IsSending, after_taken, passed, says_sent};
-ghost use Rattle.coord_core.specs.Stands.{Fails, Stands, Steps};
+ghost use Rattle.coord_core.specs.Stands.{Fails, Stands, Steps, calls_for};
 ghost use Rattle.coord_core.specs.Steps.{EachPast, SomePast};
 ghost use Rattle.coord_tables.specs.Terms.{Terms, line_of};
 
@@ -87,10 +87,10 @@ impl<P: TakePolicy> CoordCore<P> {
         requires may { SomePast (Stands P.policy D.tells self.old (D.seen disk.old)) (λ terms past. is_open past tid ≡ true) }
         ensures answered { IfOk result (λ step. (terms : Terms) (past : CoordPast) (event : TheEvent) → Stands P.policy D.tells self.old (D.seen disk.old) terms past
             → IsSending terms past event tid taken defers dues.now self.old.tables.exec (after_taken tid taken self.old.tables.exec)
-            → Steps P.policy D.tells step self.new (D.seen disk.new) terms past (line_of terms past event)) }
+            → Steps P.policy D.tells 0 (D.seen disk.old) step self.new (D.seen disk.new) terms past (line_of terms past event)) }
         ensures failed { IfErr result (λ why. (terms : Terms) (past : CoordPast) (event : TheEvent) → Stands P.policy D.tells self.old (D.seen disk.old) terms past
             → IsSending terms past event tid taken defers dues.now self.old.tables.exec (after_taken tid taken self.old.tables.exec)
-            → Fails P.policy D.tells why self.new (D.seen disk.new) terms past event) }
+            → Fails P.policy D.tells (0 + calls_for terms past event) (D.seen disk.old) why self.new (D.seen disk.new) terms past event) }
         ensures cause { HasCauseOf StepErr.Disk (D.seen disk.old).faults (D.seen disk.new).faults result }
     {
         let Ok(entry) = self.tables.initiation(alloc, tid, dues) else {

@@ -1,9 +1,9 @@
 //! The start of a coordinator that is down.
 ghost use Rattle.std.specs.Prelude.{◌≡◌, false, IfErr, IfOk, IsTrue};
 ghost use Rattle.mdb_base.specs.Counts.{HasCauseOf};
-ghost use Rattle.actor_store.specs.Store.{is_up};
+ghost use Rattle.actor_store.specs.Store.{is_up, stored, uncounted};
 ghost use Rattle.coord_core.specs.Stands.{Stands};
-ghost use Rattle.coord_core.specs.Steps.{CanStep, FailsOn, SomePast, StepsOn};
+ghost use Rattle.coord_core.specs.Steps.{CanStep, FailsBeside, FailsOn, SomePast, StepsBeside, StepsOn};
 
 use crate::coord::{CoordCore, silent};
 use actor_store::{Break, StepErr};
@@ -43,8 +43,8 @@ impl<P: TakePolicy> CoordCore<P> {
         requires told { IsTrue D.tells }
         requires down { is_up self.old.store.standing ≡ false }
         requires may { SomePast (Stands P.policy D.tells self.old (D.seen disk.old)) (CanStep CoordEvent.Back) }
-        ensures answered { IfOk result (StepsOn P.policy D.tells self.old (D.seen disk.old) self.new (D.seen disk.new) CoordEvent.Back) }
-        ensures failed { IfErr result (FailsOn P.policy D.tells self.old (D.seen disk.old) self.new (D.seen disk.new) CoordEvent.Back) }
+        ensures answered { IfOk result (StepsBeside P.policy D.tells self.old (D.seen disk.old) self.new (D.seen disk.new) (uncounted (stored self.old.store)) (CanStep CoordEvent.Back) CoordEvent.Back) }
+        ensures failed { IfErr result (FailsBeside P.policy D.tells self.old (D.seen disk.old) self.new (D.seen disk.new) (uncounted (stored self.old.store)) (CanStep CoordEvent.Back) CoordEvent.Back) }
         ensures cause { HasCauseOf StepErr.Disk (D.seen disk.old).faults (D.seen disk.new).faults result }
     {
         let Ok(sum) = read_coord_sum(alloc, &self.protocols, self.store.records()) else {

@@ -41,7 +41,7 @@ impl<P: TakePolicy> CoordCore<P> {
         requires up { self.old.store.standing ≡ Standing.Up }
         ensures answered { (tells : Bool) (seen : Seen) (terms : Terms) (past : CoordPast) → Stands P.policy tells self.old seen terms past
             → CountsVote site tid terms past → spec.last_tickets terms.protocols past site tid ticket ≡ None
-            → Steps P.policy tells result self.new seen terms past (line_of terms past (vote_event site tid (Some ticket))) }
+            → Steps P.policy tells 0 seen result self.new seen terms past (line_of terms past (vote_event site tid (Some ticket))) }
     {
         self.tables.vote(site, tid, ticket);
         silent(alloc, Answer::Voted)
@@ -62,6 +62,7 @@ impl<P: TakePolicy> CoordCore<P> {
         ensures room { OnOk result (IfSome entry.now (λ entry. HasRoom (written_size spelling entry) self.new.store.journal)) }
         ensures spare { OnOk result (IsSome (entry_of self.new.tables.committed.listed tx)) }
         ensures standing { self.new.store.standing ≡ self.old.store.standing }
+        ensures called { (D.seen disk.new).calls ≡ (D.seen disk.old).calls }
         ensures faults { (D.seen disk.new).faults ≡ (D.seen disk.old).faults }
     {
         self.tables.committed.reserve(tx)?;

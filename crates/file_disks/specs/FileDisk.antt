@@ -18,6 +18,10 @@ module _ {F : Type 0} where
   abbrev pub file_spare : FileDisk F → ℕ
   file_spare disk = vec_capacity disk.bytes - file_size disk
 
+  -- how many calls of append, sync, cut_back, trim_front and read_at it has had
+  abbrev pub file_calls : FileDisk F → ℕ
+  file_calls disk = disk.calls
+
   -- how many calls have failed
   abbrev pub file_faults : FileDisk F → ℕ
   file_faults disk = disk.faults
@@ -55,6 +59,7 @@ module _ {F : Type 0} where
   pub record KeepsMemory (old new : FileDisk F) : Type 0 where
     pub bytes : new.bytes ≡ old.bytes
     pub synced : new.synced ≡ old.synced
+    pub calls : new.calls ≡ old.calls
 
   -- so many bytes of the piece stand in the file behind the others, and no call has failed
   pub record HasWritten (tells : Bool) (image : F → Image) (faults : F → ℕ) (old now : FileDisk F) (piece : List ℕ) (done : ℕ) : Type 0 where

@@ -19,18 +19,19 @@ pub struct FileDisk<F: Drop> {
     bytes: Vec<u8>,
     synced: usize,
     is_lost: bool,
+    calls: u64,
     faults: u64,
     ghost synced_within: { synced ≤ length bytes.items },
 }
 
 impl<F: JournalFile> FileDisk<F> {
-    ghost use Rattle.file_disks.specs.FileDisk.{disk_file, file_image, file_faults, InStep};
+    ghost use Rattle.file_disks.specs.FileDisk.{disk_file, file_image, file_calls, file_faults, InStep};
 
     /// A disk over this file, which has these bytes, all of them synced.
     pub fn new(file: F, bytes: Vec<u8>) -> FileDisk<F>
         requires { IsTrue F.tells → F.image file ≡ synced_bytes bytes.items }
         ensures image { file_image result ≡ synced_bytes bytes.items }
-        ensures fresh { file_faults result ≡ 0 }
+        ensures fresh { (file_calls result ≡ 0) × (file_faults result ≡ 0) }
         ensures file { disk_file result ≡ file }
         ensures in_step { InStep F.tells F.image result }
     {
@@ -40,6 +41,7 @@ impl<F: JournalFile> FileDisk<F> {
             bytes,
             synced,
             is_lost: false,
+            calls: 0,
             faults: 0,
         }
     }
@@ -49,6 +51,13 @@ impl<F: JournalFile> FileDisk<F> {
         ensures { result.now ≡ disk_file self.now }
     {
         &self.file
+    }
+
+    /// How many calls it has had: of append, sync, cut_back, trim_front and read_at. The count stays at its last value.
+    pub fn calls(&self) -> u64
+        ensures { result ≡ file_calls self.now }
+    {
+        self.calls
     }
 }
 
@@ -107,6 +116,7 @@ impl<F: JournalFile> FileDisk<F> {
         ensures synced { self.new.synced ≡ self.old.synced }
         ensures file { self.new.file ≡ self.old.file }
         ensures lost { self.new.is_lost ≡ self.old.is_lost }
+        ensures calls { self.new.calls ≡ self.old.calls }
         ensures faults { self.new.faults ≡ self.old.faults }
     {
         match self.bytes.extend_from_slice(piece) {
@@ -129,13 +139,13 @@ impl<F: JournalFile> FileDisk<F> {
 }
 
 impl<F: JournalFile> Disk for FileDisk<F> {
-    ghost use Rattle.journal_disk.specs.Disk.{appended, all_synced, cut_to, trimmed_to, stopped, bytes_at, AppendsSome};
-    ghost use Rattle.file_disks.specs.FileDisk.{file_image, file_size, file_spare, file_faults, disk_file, InStep, IsLost, FailsByFile, StaysLost};
+    ghost use Rattle.journal_disk.specs.Disk.{appended, all_synced, cut_to, one_more, trimmed_to, stopped, bytes_at, AppendsSome};
+    ghost use Rattle.file_disks.specs.FileDisk.{file_image, file_size, file_spare, file_calls, file_faults, disk_file, InStep, IsLost, FailsByFile, StaysLost};
     ghost use Rattle.std.specs.Prelude.{◌≡◌, ◌≤◌, ◌+◌, ◌↔◌, ◌⊎◌, true, refl, length, IsErr, OnOk, OnErr};
 
     ghost tells = { true };
 
-    ghost seen = { λ disk. record { image = file_image disk; size = file_size disk; spare = file_spare disk; faults = file_faults disk } };
+    ghost seen = { λ disk. record { image = file_image disk; size = file_size disk; spare = file_spare disk; faults = file_faults disk; calls = file_calls disk } };
 
     ghost told_size = { λ disk tells. refl };
 
@@ -145,6 +155,7 @@ impl<F: JournalFile> Disk for FileDisk<F> {
         ensures room { OnOk result (more ≤ file_spare self.new) }
         ensures spare { file_spare self.old ≤ file_spare self.new }
         ensures image { file_image self.new ≡ file_image self.old }
+        ensures calls { file_calls self.new ≡ file_calls self.old }
         ensures faults { file_faults self.new ≡ file_faults self.old }
         ensures file { disk_file self.new ≡ disk_file self.old }
         ensures in_step { InStep F.tells F.image self.old → InStep F.tells F.image self.new }
@@ -161,11 +172,13 @@ impl<F: JournalFile> Disk for FileDisk<F> {
         ensures spare { file_spare self.old ≤ file_spare self.new + length piece.now }
         ensures ok { OnOk result (file_image self.new ≡ appended piece.now (file_image self.old)) }
         ensures err { OnErr result (AppendsSome piece.now (file_image self.old) (file_image self.new)) }
+        ensures calls { file_calls self.new ≡ one_more (file_calls self.old) }
         ensures cause { HasCause (file_faults self.old) (file_faults self.new) result }
         ensures in_step { InStep F.tells F.image self.old → InStep F.tells F.image self.new }
         ensures by_file { OnErr result (FailsByFile F.faults self.old self.new) }
         ensures stays_lost { StaysLost self.old self.new result }
     {
+        self.calls = self.calls.saturating_add(1);
         if self.is_lost {
             return Err(self.fail());
         }
@@ -181,12 +194,14 @@ impl<F: JournalFile> Disk for FileDisk<F> {
         ensures spare { file_spare self.old ≤ file_spare self.new }
         ensures ok { OnOk result (file_image self.new ≡ all_synced (file_image self.old)) }
         ensures err { OnErr result (file_image self.new ≡ file_image self.old) }
+        ensures calls { file_calls self.new ≡ one_more (file_calls self.old) }
         ensures cause { HasCause (file_faults self.old) (file_faults self.new) result }
         ensures in_step { OnOk result (InStep F.tells F.image self.old → InStep F.tells F.image self.new) }
         ensures lost { OnErr result (IsLost self.new) }
         ensures by_file { OnErr result (FailsByFile F.faults self.old self.new) }
         ensures stays_lost { StaysLost self.old self.new result }
     {
+        self.calls = self.calls.saturating_add(1);
         if self.is_lost || self.file.sync().is_err() {
             return Err(self.lose());
         }
@@ -200,12 +215,14 @@ impl<F: JournalFile> Disk for FileDisk<F> {
         ensures spare { file_spare self.old ≤ file_spare self.new }
         ensures ok { OnOk result (file_image self.new ≡ cut_to length (file_image self.old)) }
         ensures err { OnErr result (file_image self.new ≡ file_image self.old) }
+        ensures calls { file_calls self.new ≡ one_more (file_calls self.old) }
         ensures cause { HasCause (file_faults self.old) (file_faults self.new) result }
         ensures in_step { OnOk result (InStep F.tells F.image self.old → InStep F.tells F.image self.new) }
         ensures lost { OnErr result (IsLost self.new) }
         ensures by_file { OnErr result (FailsByFile F.faults self.old self.new) }
         ensures stays_lost { StaysLost self.old self.new result }
     {
+        self.calls = self.calls.saturating_add(1);
         if self.is_lost || self.cut_file(length).is_err() {
             return Err(self.lose());
         }
@@ -221,12 +238,14 @@ impl<F: JournalFile> Disk for FileDisk<F> {
         ensures spare { file_spare self.old ≤ file_spare self.new }
         ensures ok { OnOk result (file_image self.new ≡ trimmed_to place (file_image self.old)) }
         ensures err { OnErr result (file_image self.new ≡ file_image self.old) }
+        ensures calls { file_calls self.new ≡ one_more (file_calls self.old) }
         ensures cause { HasCause (file_faults self.old) (file_faults self.new) result }
         ensures in_step { OnOk result (InStep F.tells F.image self.old → InStep F.tells F.image self.new) }
         ensures lost { OnErr result (IsLost self.new) }
         ensures by_file { OnErr result (FailsByFile F.faults self.old self.new) }
         ensures stays_lost { StaysLost self.old self.new result }
     {
+        self.calls = self.calls.saturating_add(1);
         let place = place as usize;
         if self.is_lost || self.file.replace(&self.bytes[place..]).is_err() {
             return Err(self.lose());
@@ -247,11 +266,13 @@ impl<F: JournalFile> Disk for FileDisk<F> {
         ensures spare { file_spare self.old ≤ file_spare self.new }
         ensures ok { OnOk result (into.new ≡ bytes_at place (length into.old) (file_image self.old)) }
         ensures image { file_image self.new ≡ file_image self.old }
+        ensures calls { file_calls self.new ≡ one_more (file_calls self.old) }
         ensures cause { HasCause (file_faults self.old) (file_faults self.new) result }
         ensures in_step { InStep F.tells F.image self.old → InStep F.tells F.image self.new }
         ensures lost { IsErr result ↔ IsLost self.old }
         ensures stays_lost { StaysLost self.old self.new result }
     {
+        self.calls = self.calls.saturating_add(1);
         if self.is_lost {
             return Err(self.fail());
         }
@@ -264,6 +285,7 @@ impl<F: JournalFile> Disk for FileDisk<F> {
     fn stop(&mut self, cut: u64)
         ensures spare { file_spare self.old ≤ file_spare self.new }
         ensures image { file_image self.new ≡ stopped cut (file_image self.old) }
+        ensures calls { file_calls self.new ≡ file_calls self.old }
         ensures faults { file_faults self.new ≡ file_faults self.old }
         ensures in_step { InStep F.tells F.image self.old → InStep F.tells F.image self.new ⊎ IsLost self.new }
         ensures by_file { IsLost self.new → FailsByFile F.faults self.old self.new }

@@ -1,8 +1,7 @@
 //! A file in memory, some calls of which can be told to fail.
 ghost use Rattle.std.specs.Prelude.{◌≡◌, ◌≤◌, ◌<◌, ◌+◌, ◌^◌, ◌↔◌, true, min, IsTrue, IsErr, IfOk, OnOk, OnErr, Contains, length, take, [], is_ok};
 ghost use Rattle.mdb_base.specs.Counts.{HasCause};
-ghost use Rattle.journal_disk.specs.Disk.{appended, all_synced, synced_bytes};
-ghost use Rattle.journal_disk.specs.MemDisk.{one_more};
+ghost use Rattle.journal_disk.specs.Disk.{appended, all_synced, one_more, synced_bytes};
 
 use crate::counting::{counted, is_listed};
 use crate::journal_file::JournalFile;

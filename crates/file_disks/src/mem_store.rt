@@ -86,7 +86,7 @@ impl MemStore {
 
 impl Store<MemDisk> for MemStore {
     ghost use Rattle.std.specs.Prelude.{true};
-    ghost use Rattle.journal_disk.specs.MemDisk.{one_more};
+    ghost use Rattle.journal_disk.specs.Disk.{one_more};
     ghost use Rattle.file_disks.specs.MemStore.{disk_failing, store_calls, store_failing, store_faults, store_journals};
     ghost use Rattle.file_disks.specs.Stores.{journal_of, IsNotLarge, IsLarge};
 

@@ -78,6 +78,7 @@ fn a_disk_is_lost_but_where_an_append_failed(rt: HostRuntime) -> Result<(), Fail
         let (answers, disk) = steps_with(alloc, failing).ok_or("no memory")?;
         assert_eq!(rt; answers, want, "call {failing}");
         assert_eq!(rt; disk.file().bytes(), kept.as_bytes(), "call {failing}");
+        assert_eq!(rt; disk.calls(), 7, "each call counts, call {failing}");
     }
     Ok(())
 }

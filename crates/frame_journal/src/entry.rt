@@ -2,7 +2,7 @@
 ghost use Rattle.std.specs.Prelude.{◌≡◌, ◌≤◌, ◌<◌, ◌+◌, ◌++◌, ◌^◌, ℕ, List, length, OnOk, OnErr, IsTrue};
 ghost use Rattle.std.specs.Vec.{vec_capacity};
 ghost use Rattle.mdb_base.specs.Counts.{HasCause};
-ghost use Rattle.journal_disk.specs.Disk.{appended, AppendsSome};
+ghost use Rattle.journal_disk.specs.Disk.{appended, AppendsSome, HasCalled};
 ghost use Rattle.journal_disk.specs.Frames.{frame as frame_of, frame_in, frame_size, IsPayload};
 ghost use Rattle.journal_disk.specs.Room.{payload_in};
 ghost use Rattle.frame_journal.specs.Journal.{written_size};
@@ -40,6 +40,7 @@ pub fn append_entry<R, F: Format<R>, D: Disk>(
     ensures size { OnOk result ((D.seen disk.new).size ≡ (D.seen disk.old).size + written_size F.spelling entry.now) }
     ensures grows { (D.seen disk.old).size ≤ (D.seen disk.new).size }
     ensures spare { (D.seen disk.old).spare ≤ (D.seen disk.new).spare + written_size F.spelling entry.now }
+    ensures called { HasCalled 1 (D.seen disk.old) (D.seen disk.new) }
     ensures cause { HasCause (D.seen disk.old).faults (D.seen disk.new).faults result }
 {
     spell::<R, F>(frame, entry);

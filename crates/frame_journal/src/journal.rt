@@ -39,7 +39,7 @@ impl<R: Drop, F: Format<R>> Model for Journal<R, F> {
 
 impl<R: Drop, F: Format<R>> Journal<R, F> {
     ghost use Rattle.journal_disk.specs.Frames.{Frame, frame, frames_size, AreWhole, IsDamagedBehind, IsPayload};
-    ghost use Rattle.journal_disk.specs.Disk.{appended, all_synced, trimmed_to, stopped, kept_bytes, synced_bytes, AppendsSome, CutsOrNot};
+    ghost use Rattle.journal_disk.specs.Disk.{appended, all_synced, trimmed_to, stopped, kept_bytes, synced_bytes, AppendsSome, CutsOrNot, HasCalled, TakesCalls, reads};
     ghost use Rattle.frame_journal.specs.Records.{Entry, before_last, entries_at, entry_frame, last_alone, records_within, spelled, spelled_size, values, AreRecordsOf, Loads, StopsAt};
     ghost use Rattle.frame_journal.specs.Journal.{IsKeptOn, EndsWith, HasRoom, new_journal, records, with_room, with_room_for, with_entry, written_size, ForcesSome, NotesOrNot};
 
@@ -59,7 +59,7 @@ impl<R: Drop, F: Format<R>> Journal<R, F> {
         }
     }
 
-    /// Reads the records whose frames are whole, in one pass. The disk isn't changed, and an empty one isn't read.
+    /// Reads the records whose frames are whole, in one pass: the disk is read once, and an empty one isn't. The disk isn't changed.
     pub fn load<D: Disk>(alloc: Global, disk: &mut D) -> Result<Self, JournalErr>
         ensures kept_on { IfOk result (IsKeptOn F.spelling D.tells (D.seen disk.new)) }
         // A frame that is no record is named exactly where it stands, the first one first.
@@ -73,6 +73,7 @@ impl<R: Drop, F: Format<R>> Journal<R, F> {
             → Loads (λ journal. journal.entries) result (Ok entries) }
         ensures are_records { IfOk result (λ journal. AllByRecursion F.is_record (records journal)) }
         ensures nothing_reserved { IfOk result (λ journal. (journal.places ≡ 0) × (journal.room ≡ 0)) }
+        ensures called { TakesCalls (reads (D.seen disk.old).size) (D.seen disk.old) (D.seen disk.new) result }
         ensures cause { HasCauseOf JournalErr.Failed (D.seen disk.old).faults (D.seen disk.new).faults result }
         ensures untouched { (D.seen disk.old).size ≡ 0 → disk.new ≡ disk.old }
         ensures image { IsTrue D.tells → (D.seen disk.new).image ≡ (D.seen disk.old).image }
@@ -136,6 +137,7 @@ impl<R: Drop, F: Format<R>> Journal<R, F> {
         ensures image { IsTrue D.tells → (D.seen disk.new).image ≡ (D.seen disk.old).image }
         ensures size { (D.seen disk.new).size ≡ (D.seen disk.old).size }
         ensures spare { (D.seen disk.old).spare ≤ (D.seen disk.new).spare }
+        ensures called { (D.seen disk.new).calls ≡ (D.seen disk.old).calls }
         ensures faults { (D.seen disk.new).faults ≡ (D.seen disk.old).faults }
     {
         let places = self.places.max(places);
@@ -160,6 +162,7 @@ impl<R: Drop, F: Format<R>> Journal<R, F> {
         ensures image { IsTrue D.tells → (D.seen disk.new).image ≡ (D.seen disk.old).image }
         ensures size { (D.seen disk.new).size ≡ (D.seen disk.old).size }
         ensures spare { (D.seen disk.old).spare ≤ (D.seen disk.new).spare }
+        ensures called { (D.seen disk.new).calls ≡ (D.seen disk.old).calls }
         ensures faults { (D.seen disk.new).faults ≡ (D.seen disk.old).faults }
     {
         let Some(places) = self.places.checked_add(1) else {
@@ -188,6 +191,7 @@ impl<R: Drop, F: Format<R>> Journal<R, F> {
         ensures journal { self.new ≡ record self.old { is_torn = self.new.is_torn } }
         ensures kept_on { IsKeptOn F.spelling D.tells (D.seen disk.new) self.new }
         ensures spare { (D.seen disk.old).spare ≤ (D.seen disk.new).spare }
+        ensures called { HasCalled 1 (D.seen disk.old) (D.seen disk.new) }
         ensures cause { HasCause (D.seen disk.old).faults (D.seen disk.new).faults result }
     {
         let outcome = disk.cut_back(self.whole);
@@ -195,8 +199,8 @@ impl<R: Drop, F: Format<R>> Journal<R, F> {
         outcome
     }
 
-    /// Appends an entry, which isn't synced yet. Where it fails, the entry stands in the journal exactly where its frame is whole on
-    /// the disk.
+    /// Appends an entry by one append, which isn't synced yet. Where it fails, the entry stands in the journal exactly where its frame is
+    /// whole on the disk.
     pub fn note<D: Disk>(&mut self, disk: &mut D, entry: R) -> Result<(), Failed>
         requires kept_on { IsKeptOn F.spelling D.tells (D.seen disk.old) self.old }
         requires whole { self.old.is_torn ≡ false }
@@ -210,6 +214,7 @@ impl<R: Drop, F: Format<R>> Journal<R, F> {
         ensures is_record { F.is_record entry }
         ensures kept_on { IsKeptOn F.spelling D.tells (D.seen disk.new) self.new }
         ensures spare { (D.seen disk.old).spare ≤ (D.seen disk.new).spare + written_size F.spelling entry }
+        ensures called { HasCalled 1 (D.seen disk.old) (D.seen disk.new) }
         ensures cause { HasCause (D.seen disk.old).faults (D.seen disk.new).faults result }
     {
         let outcome = append_entry::<R, F, D>(disk, &mut self.frame, &entry);
@@ -228,7 +233,7 @@ impl<R: Drop, F: Format<R>> Journal<R, F> {
         outcome
     }
 
-    /// Appends an entry and syncs. Where the sync fails, the entry stands in the journal, and a stop may still take it away.
+    /// Appends an entry and syncs once. Where the sync fails, the entry stands in the journal, and a stop may still take it away.
     pub fn force<D: Disk>(&mut self, disk: &mut D, entry: R) -> Result<(), Failed>
         requires kept_on { IsKeptOn F.spelling D.tells (D.seen disk.old) self.old }
         requires whole { self.old.is_torn ≡ false }
@@ -242,6 +247,7 @@ impl<R: Drop, F: Format<R>> Journal<R, F> {
         ensures is_record { F.is_record entry }
         ensures kept_on { IsKeptOn F.spelling D.tells (D.seen disk.new) self.new }
         ensures spare { (D.seen disk.old).spare ≤ (D.seen disk.new).spare + written_size F.spelling entry }
+        ensures called { TakesCalls 2 (D.seen disk.old) (D.seen disk.new) result }
         ensures cause { HasCause (D.seen disk.old).faults (D.seen disk.new).faults result }
     {
         self.note(disk, entry)?;
@@ -259,6 +265,7 @@ impl<R: Drop, F: Format<R>> Journal<R, F> {
         ensures image_err { OnErr result (IsTrue D.tells → (D.seen disk.new).image ≡ (D.seen disk.old).image) }
         ensures kept_on { IsKeptOn F.spelling D.tells (D.seen disk.new) self.new }
         ensures spare { (D.seen disk.old).spare ≤ (D.seen disk.new).spare }
+        ensures called { HasCalled 1 (D.seen disk.old) (D.seen disk.new) }
         ensures cause { HasCause (D.seen disk.old).faults (D.seen disk.new).faults result }
     {
         let size = last_frame_len::<R, F>(&self.records, &self.versions) as u64;
@@ -280,6 +287,7 @@ impl<R: Drop, F: Format<R>> Journal<R, F> {
         ensures size { IsTrue D.tells → (D.seen disk.new).size ≡ kept_bytes cut (D.seen disk.old).image }
         ensures kept_on { IsKeptOn F.spelling D.tells (D.seen disk.new) self.new }
         ensures spare { (D.seen disk.old).spare ≤ (D.seen disk.new).spare }
+        ensures called { (D.seen disk.new).calls ≡ (D.seen disk.old).calls }
         ensures faults { (D.seen disk.new).faults ≡ (D.seen disk.old).faults }
     {
         disk.stop(cut);

@@ -1,5 +1,5 @@
 -- What is asked of a manager comes to a request that may be served, and what answers the request answers what is asked.
-use Rattle.std.proofs.Common.{◌≡◌, Bool, [], sym, ap, ◌∙◌, subst}
+use Rattle.std.proofs.Common.{◌≡◌, ◌+◌, Bool, [], sym, ap, ◌∙◌, subst}
 use Rattle.fed_rules.specs.declared.answers.Answer.{Answer}
 use Rattle.fed_rules.specs.declared.events.CoordEvent.{CoordEvent}
 use Rattle.fed_rules.specs.declared.events.CoordStep.{CoordStep}
@@ -9,6 +9,7 @@ use Rattle.fed_rules.specs.Requests.{Request}
 use Rattle.journal_disk.specs.Disk.{Seen}
 use Rattle.actor_store.specs.declared.errors.StepErr.{StepErr}
 use Rattle.coord_core.specs.declared.coord.CoordCore.{CoordCore}
+use Rattle.coord_core.specs.Stands.{beside_rules, calls_for}
 use Rattle.coord_core.specs.Steps.{FailsOn, StepsOn}
 use Rattle.coord_tables.specs.Terms.{Terms}
 use Rattle.global_manager.specs.declared.asks.CoordAsk.{CoordAsk}
@@ -52,7 +53,7 @@ module _ {P : Type 0} (test : P → Policy) (tells : Bool) (old : GlobalManager 
     answers step answered terms programs past k can =
         let fits = may_serve (Asked_is.Submits event) is terms programs past k can in
         subst (λ (r : Request CoordEvent). Serves (Stands test tells (record old { core = core }) after) step terms programs past r) (comes_to (Asked_is.Submits event) is terms programs past k)
-        (sends test tells old core after terms programs past event k.owns fits.1 step (answered terms past k.core fits.0))
+        (sends test tells old core after terms programs past event k.owns fits.1 (beside_rules event old.core before) before step (answered terms past k.core fits.0))
 
     -- or that it doesn't answer it
     pub refuses : (why : StepErr) → FailsOn test tells old.core before core after event why
@@ -61,4 +62,4 @@ module _ {P : Type 0} (test : P → Policy) (tells : Bool) (old : GlobalManager 
     refuses why refused terms programs past k can =
         let fits = may_serve (Asked_is.Submits event) is terms programs past k can in
         subst (λ (r : Request CoordEvent). Fails (Stands test tells (record old { core = core }) after) why terms programs past r) (comes_to (Asked_is.Submits event) is terms programs past k)
-        (fails test tells old core after terms programs past event k.owns fits.1 why (refused terms past k.core fits.0))
+        (fails test tells old core after terms programs past event k.owns fits.1 (beside_rules event old.core before + calls_for terms past event) before why (refused terms past k.core fits.0))

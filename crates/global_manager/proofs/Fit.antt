@@ -1,5 +1,5 @@
 -- The event that a command comes to may come to the core, and fits the programs; and what a line leaves of what is stood for.
-use Rattle.std.proofs.Common.{◌≡◌, ◌<◌, Bool, IsSome, is_some, Some, List, inl, inr, refl, ap, subst}
+use Rattle.std.proofs.Common.{◌≡◌, ℕ, ◌<◌, Bool, IsSome, is_some, Some, List, inl, inr, refl, ap, subst}
 use Rattle.std.specs.FinMap.{from_entries}
 use Rattle.mdb_base.specs.declared.acts.Step.{Step}
 use Rattle.mdb_base.specs.declared.names.Tx.{Tx}
@@ -41,8 +41,9 @@ recalled test tells manager seen terms programs past s = record { core = s.core.
 module _ {P : Type 0} (test : P → Policy) (tells : Bool) (old : GlobalManager P) (core : CoordCore P) (seen : Seen) (terms : Terms) (programs : OwnPrograms) (past : CoordPast)
     (event : CoordEvent) (owns : Owns (from_entries old.programs.entries) terms programs past) (fits : FitsPrograms programs past event) where
   -- the core answered
-  pub sends : (step : CoordStep) → Steps test tells step core seen terms past (line_of terms past event) → Sends (Stands test tells (record old { core = core }) seen) step terms programs past event
-  sends step s = record {
+  pub sends : (beside : ℕ) (was : Seen) (step : CoordStep) → Steps test tells beside was step core seen terms past (line_of terms past event)
+      → Sends (Stands test tells (record old { core = core }) seen) step terms programs past event
+  sends beside was step s = record {
     said = s.answer;
     sent = s.sends;
     next = record { core = s.stood; owns = record { held = owns.held; named = owns.named; sited = owns.sited; owned = owned_more terms programs past event owns.owned fits } };
@@ -65,7 +66,8 @@ module _ {P : Type 0} (test : P → Policy) (tells : Bool) (old : GlobalManager 
   }
 
   -- or it didn't
-  pub fails : (why : StepErr) → CoreFails test tells why core seen terms past event → Fails (Stands test tells (record old { core = core }) seen) why terms programs past (Submits event)
-  fails Err_is.Memory s = record { core = s; owns = owns }
-  fails Err_is.Disk (inl s) = inl (before s)
-  fails Err_is.Disk (inr s) = inr (within s)
+  pub fails : (most : ℕ) (was : Seen) (why : StepErr) → CoreFails test tells most was why core seen terms past event
+      → Fails (Stands test tells (record old { core = core }) seen) why terms programs past (Submits event)
+  fails most was Err_is.Memory (s, few) = record { core = s; owns = owns }
+  fails most was Err_is.Disk (inl s, few) = inl (before s)
+  fails most was Err_is.Disk (inr s, few) = inr (within s)

@@ -1,4 +1,5 @@
 pub mod ForCallers
+mod Called
 mod Counted
 mod Parts
 mod Room

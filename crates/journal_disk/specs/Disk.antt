@@ -1,6 +1,6 @@
 -- What a disk holds: an append-only list of bytes of which a front is synced and may be trimmed, and what each call and each stop leaves
 -- of it.
-use Rattle.std.specs.Prelude.{ℕ, ◌≡◌, ◌+◌, ◌-◌, ◌≤◌, min, ◌⊎◌, List, [], ◌++◌, length, take, drop}
+use Rattle.std.specs.Prelude.{ℕ, ◌≡◌, ◌+◌, ◌-◌, ◌^◌, ◌≤◌, min, ◌⊎◌, Result, OnOk, OnErr, List, [], ◌++◌, length, take, drop}
 
 -- the bytes in their order, and how many of them are synced
 pub record Image : Type 0 where
@@ -8,12 +8,13 @@ pub record Image : Type 0 where
   pub synced : ℕ
 
 -- what contracts see of a disk: its image, where its type tells it; how many bytes it has, and how many can be appended without memory;
--- and how often it failed, which never falls
+-- how often it failed, which never falls; and how many calls it had that can fail: appends, syncs, cuts, trims and reads
 pub record Seen : Type 0 where
   pub image : Image
   pub size : ℕ
   pub spare : ℕ
   pub faults : ℕ
+  pub calls : ℕ
 
 -- no byte
 abbrev pub no_bytes : Image
@@ -71,3 +72,30 @@ MayLeave image left = (n : ℕ) × (image.synced ≤ n) × (n ≤ length image.b
 -- the bytes from this place on
 abbrev pub bytes_at : (place count : ℕ) → Image → List ℕ
 bytes_at place count image = take count (drop place image.bytes)
+
+-- ---- counts of calls
+
+-- a count is kept in 64 bits, and stays at its last value
+abbrev pub in_64_bits : ℕ → ℕ
+in_64_bits count = min count (2 ^ 64 - 1)
+
+-- one call more
+abbrev pub one_more : ℕ → ℕ
+one_more count = in_64_bits (count + 1)
+
+-- so many calls that can fail were made, as far as 64 bits count
+abbrev pub HasCalled : ℕ → Seen → Seen → Type 0
+HasCalled n old new = in_64_bits new.calls ≡ in_64_bits (old.calls + n)
+
+-- at most so many
+abbrev pub HasCalledAtMost : ℕ → Seen → Seen → Type 0
+HasCalledAtMost n old new = in_64_bits new.calls ≤ in_64_bits (old.calls + n)
+
+-- so many where all went well, and at most so many where it didn't
+pub record TakesCalls {T E : Type 0} (n : ℕ) (old new : Seen) (outcome : Result T E) : Type 0 where
+  pub done : OnOk outcome (HasCalled n old new)
+  pub failed : OnErr outcome (HasCalledAtMost n old new)
+
+-- how often a disk of so many bytes is read: once, and an empty one isn't
+abbrev pub reads : ℕ → ℕ
+reads size = min 1 size

@@ -1,7 +1,7 @@
 -- What contracts see of a disk in memory.
-use Rattle.std.specs.Prelude.{ℕ, ◌≡◌, ◌+◌, ◌-◌, ◌^◌, min, List, length, Contains, Result, IsErr, ◌↔◌}
+use Rattle.std.specs.Prelude.{ℕ, ◌≡◌, ◌-◌, List, length, Contains, Result, IsErr, ◌↔◌}
 use Rattle.std.specs.Vec.{vec_capacity}
-use Rattle.journal_disk.specs.Disk.{Image}
+use Rattle.journal_disk.specs.Disk.{Image, one_more}
 use Rattle.journal_disk.specs.declared.mem_disk.MemDisk.{MemDisk}
 
 -- its bytes, and how many of them are synced
@@ -27,10 +27,6 @@ mem_failing disk = disk.failing.items
 -- how many calls have failed
 abbrev pub mem_faults : MemDisk → ℕ
 mem_faults disk = disk.faults
-
--- one more, in 64 bits
-abbrev pub one_more : ℕ → ℕ
-one_more count = min (count + 1) (2 ^ 64 - 1)
 
 -- the next call was made: it failed exactly where its number is listed, and a failure was counted
 pub record Calls {T E : Type 0} (old new : MemDisk) (outcome : Result T E) : Type 0 where

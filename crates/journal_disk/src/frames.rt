@@ -2,7 +2,7 @@
 ghost use Rattle.std.specs.Prelude.{◌≡◌, ◌≤◌, ◌<◌, ◌-◌, ◌+◌, ◌^◌, ◌↔◌, ℕ, length, drop, take, OnOk, OnErr, IsErrOf, IsTrue};
 ghost use Rattle.sha2.specs.Sha256.{sha256};
 ghost use Rattle.mdb_base.specs.Counts.{HasCauseOf};
-ghost use Rattle.journal_disk.specs.Disk.{appended, AppendsSome};
+ghost use Rattle.journal_disk.specs.Disk.{appended, AppendsSome, HasCalled};
 ghost use Rattle.journal_disk.specs.Frames.{IsPayload, frame as frame_of};
 ghost use Rattle.journal_disk.specs.Room.{payload_in};
 
@@ -52,6 +52,7 @@ pub fn append_frame<D: Disk>(disk: &mut D, frame: &mut [u8]) -> Result<(), Frame
     ensures spare { (D.seen disk.old).spare ≤ (D.seen disk.new).spare + length frame.old }
     ensures size { OnOk result ((D.seen disk.new).size ≡ (D.seen disk.old).size + length frame.old) }
     ensures grows { (D.seen disk.old).size ≤ (D.seen disk.new).size }
+    ensures called { (IsErrOf result FrameErr.TooLong → ⊥) → HasCalled 1 (D.seen disk.old) (D.seen disk.new) }
     ensures cause { HasCauseOf FrameErr.Failed (D.seen disk.old).faults (D.seen disk.new).faults result }
 {
     let length = frame.len() - (ROOM_BEFORE + ROOM_BEHIND);

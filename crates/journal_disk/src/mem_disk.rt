@@ -49,6 +49,13 @@ impl MemDisk {
             Err(_) => Err(Memory),
         }
     }
+
+    /// How many calls it has had: of append, sync, cut_back, trim_front and read_at. The count stays at its last value.
+    pub fn calls(&self) -> u64
+        ensures { result ≡ mem_calls self.now }
+    {
+        self.calls
+    }
 }
 
 impl MemDisk {
@@ -95,13 +102,13 @@ fn is_listed(failing: &[u32], call: u64) -> bool
 
 impl Disk for MemDisk {
     ghost use Rattle.journal_disk.specs.Disk.{appended, all_synced, cut_to, trimmed_to, stopped, bytes_at, AppendsSome};
-    ghost use Rattle.journal_disk.specs.MemDisk.{mem_image, mem_size, mem_spare, mem_faults, Calls, KeepsCalls};
+    ghost use Rattle.journal_disk.specs.MemDisk.{mem_image, mem_size, mem_spare, mem_faults, mem_calls, Calls, KeepsCalls};
     ghost use Rattle.std.specs.Prelude.{◌≡◌, ◌≤◌, ◌+◌, true, refl, length, OnOk, OnErr};
     ghost use Rattle.mdb_base.specs.Counts.{HasCause};
 
     ghost tells = { true };
 
-    ghost seen = { λ disk. record { image = mem_image disk; size = mem_size disk; spare = mem_spare disk; faults = mem_faults disk } };
+    ghost seen = { λ disk. record { image = mem_image disk; size = mem_size disk; spare = mem_spare disk; faults = mem_faults disk; calls = mem_calls disk } };
 
     ghost told_size = { λ disk tells. refl };
 

@@ -2,6 +2,7 @@
 ghost use Rattle.std.specs.Prelude.{◌≡◌, ◌≤◌, ◌<◌, ◌-◌, ◌+◌, ◌++◌, ◌^◌, ℕ, Some, [], length, drop, slice_get, IfOk, IfSome, OnOk, IfNone, IsErrOf, IsTrue, ◌↔◌};
 ghost use Rattle.mdb_base.specs.Words.{map_some};
 ghost use Rattle.mdb_base.specs.Counts.{HasCauseOf};
+ghost use Rattle.journal_disk.specs.Disk.{TakesCalls, reads};
 ghost use Rattle.journal_disk.specs.Frames.{digest_of as digest_of_payload, frame_bytes, frames_size, payload_of, version_of, AreRight, AreWhole, IsDamaged, IsFrame, IsFront, IsPartOfFrame, IsPayload, IsRight};
 ghost use Rattle.journal_disk.specs.Spans.{frame_at, frames_at, piece, BeginsNew, IsCounted, IsWithin, Scans};
 
@@ -152,13 +153,14 @@ impl Model for Frames {
 
 impl Frames {
     /// Reads the whole frames from the front. What follows the last one is a proper prefix of one frame. Damaged comes exactly where, behind
-    /// whole frames that are right, stands a whole one with another digest, and names its place. The disk isn't changed, and an empty one
-    /// isn't read.
+    /// whole frames that are right, stands a whole one with another digest, and names its place. The disk isn't changed. It is read
+    /// once, and an empty one isn't read.
     pub fn read<D: Disk>(alloc: Global, disk: &mut D) -> Result<Frames, DiskErr>
         ensures found { IfOk result (λ found. IsTrue D.tells → AreWhole (D.seen disk.old).image.bytes found) }
         ensures within { IfOk result (λ found. frames_size found ≤ (D.seen disk.old).size) }
         ensures damaged { (at : ℕ) → IsErrOf result (DiskErr.Damaged at) → IsTrue D.tells → IsDamaged (D.seen disk.old).image.bytes at }
         ensures never_missed { OnOk result (IsTrue D.tells → (at : ℕ) → IsDamaged (D.seen disk.old).image.bytes at → ⊥) }
+        ensures called { TakesCalls (reads (D.seen disk.old).size) (D.seen disk.old) (D.seen disk.new) result }
         ensures cause { HasCauseOf DiskErr.Failed (D.seen disk.old).faults (D.seen disk.new).faults result }
         ensures untouched { (D.seen disk.old).size ≡ 0 → disk.new ≡ disk.old }
         ensures image { IsTrue D.tells → (D.seen disk.new).image ≡ (D.seen disk.old).image }
@@ -173,11 +175,12 @@ impl Frames {
     }
 
     /// Reads the whole frames from the front up to the first one that is damaged, and answers too whether there is one. The disk isn't
-    /// changed, and an empty one isn't read.
+    /// changed. It is read once, and an empty one isn't read.
     pub fn read_front<D: Disk>(alloc: Global, disk: &mut D) -> Result<(Frames, bool), DiskErr>
         ensures front { IfOk result (λ found. IsTrue D.tells → IsFront (D.seen disk.old).image.bytes found.0 found.1) }
         ensures within { IfOk result (λ found. frames_size found.0 ≤ (D.seen disk.old).size) }
         ensures undamaged { (at : ℕ) → IsErrOf result (DiskErr.Damaged at) → ⊥ }
+        ensures called { TakesCalls (reads (D.seen disk.old).size) (D.seen disk.old) (D.seen disk.new) result }
         ensures cause { HasCauseOf DiskErr.Failed (D.seen disk.old).faults (D.seen disk.new).faults result }
         ensures untouched { (D.seen disk.old).size ≡ 0 → disk.new ≡ disk.old }
         ensures image { IsTrue D.tells → (D.seen disk.new).image ≡ (D.seen disk.old).image }
@@ -240,6 +243,7 @@ fn read_all<D: Disk>(alloc: Global, disk: &mut D) -> Result<Vec<u8>, DiskErr>
     ensures bytes { IfOk result (λ bytes. IsTrue D.tells → bytes.items ≡ (D.seen disk.old).image.bytes) }
     ensures count { IfOk result (λ bytes. length bytes.items ≡ (D.seen disk.old).size) }
     ensures undamaged { (at : ℕ) → IsErrOf result (DiskErr.Damaged at) → ⊥ }
+    ensures called { TakesCalls (reads (D.seen disk.old).size) (D.seen disk.old) (D.seen disk.new) result }
     ensures cause { HasCauseOf DiskErr.Failed (D.seen disk.old).faults (D.seen disk.new).faults result }
     ensures untouched { (D.seen disk.old).size ≡ 0 → disk.new ≡ disk.old }
     ensures image { IsTrue D.tells → (D.seen disk.new).image ≡ (D.seen disk.old).image }

@@ -1,4 +1,5 @@
 pub mod ForCallers
+mod CanFail
 mod Keeps
 mod Journals
 mod Making

@@ -7,12 +7,13 @@ use Rattle.std.proofs.lemmas.List.{append-nil, append_assoc, length-append, nil_
 use Rattle.mdb_base.specs.Counts.{HasCause, HasRisen}
 use Rattle.fed_rules.specs.Disk.{Call, Append, Sync, CutBack, TrimFront, Stops, Disk, bytes_of, after_call, after_calls, empty_disk, is_torn, journal as journal_of}
 use Rattle.journal_disk.specs.declared.errors.JournalErr.{JournalErr}
-use Rattle.journal_disk.specs.Disk.{Image, IsSound, Seen, all_synced, appended, cut_to, no_bytes, stopped, synced_bytes, trimmed_to}
+use Rattle.journal_disk.specs.Disk.{HasCalled, Image, IsSound, Seen, all_synced, appended, cut_to, no_bytes, stopped, synced_bytes, trimmed_to}
 use Rattle.journal_disk.specs.Frames.{AreWhole, IsPayload, frame}
+use Rattle.journal_disk.proofs.ForCallers.{calls_add, no_call}
 use Rattle.frame_journal.specs.Journal.{IsKeptOn, Kept}
 use Rattle.frame_journal.specs.Records.{AreRecordsOf, Entry, Loads, as_written, before_last, entry_frame, spelled, spelled_size, values}
 use Rattle.frame_journal.proofs.ForCallers.{cut_image, length-frames}
-use Rattle.journal_rules.specs.Calls.{Follows, IsAfter, IsOf, NoneFailed, bytes_after, calls_of, disk_after, unless_torn}
+use Rattle.journal_rules.specs.Calls.{Follows, IsAfter, IsOf, NoneFailed, bytes_after, calls_of, can_fail, disk_after, made_calls, unless_torn}
 use Rattle.journal_rules.specs.declared.calls.JournalCall.{JournalCall}
 use Rattle.journal_rules.specs.Stands.{AllMayCome, CountsFrames, StandsFor, image_after_calls, record_frame}
 use Rattle.journal_rules.specs.declared.calls.JournalCall.TheVariants.{Note, Force, Check, Cut, Stop}
@@ -62,14 +63,15 @@ module _ {R : Type 0} (spelling : R → List ℕ) (is_record : R → Type 0) (si
   all_after_calls disk (call ∷ calls) are all = all_after_calls (after_call size disk call) calls are.1 (all_after disk call are.0 all)
 
   -- calls that may come
-  pub is_after : (old new : Image) (disk : Disk R) (calls : List (Call R)) → IsOf spelling is_record size old disk → AllMayCome spelling size disk calls → AllByRecursion Writes calls
-      → new ≡ image_after_calls spelling size disk old calls → IsAfter spelling is_record size old new disk calls
-  is_after old new disk calls is may are e = record {
+  pub is_after : (old new : Seen) (disk : Disk R) (calls : List (Call R)) → IsOf spelling is_record size old.image disk → AllMayCome spelling size disk calls → AllByRecursion Writes calls
+      → new.image ≡ image_after_calls spelling size disk old.image calls → HasCalled (can_fail calls) old new → IsAfter spelling is_record size old new disk calls
+  is_after old new disk calls is may are e called = record {
     image = e;
     is_of = record {
-      stands = subst (λ (i : Image). StandsFor spelling size i (after_calls size disk calls)) (sym e) (calls_stand spelling size counts old disk calls is.stands may);
+      stands = subst (λ (i : Image). StandsFor spelling size i (after_calls size disk calls)) (sym e) (calls_stand spelling size counts old.image disk calls is.stands may);
       are_records = all_after_calls disk calls are is.are_records;
     };
+    called = called;
   }
 
   -- what was trimmed lies before the end of the frames, and they end within the bytes
@@ -86,64 +88,66 @@ module _ {R : Type 0} (spelling : R → List ℕ) (is_record : R → Type 0) (si
   module _ (tells : Bool) (seen : Seen) (journal : Kept R) (told : IsTrue tells) (sized : length seen.image.bytes ≡ seen.size) (kept : IsKeptOn spelling tells seen journal) where
     -- nothing is written while the journal is torn
     pub none_written : (disk : Disk R) (calls : List (Call R)) → journal.is_torn ≡ true → IsOf spelling is_record size seen.image disk
-        → IsAfter spelling is_record size seen.image seen.image disk (unless_torn size disk calls)
+        → IsAfter spelling is_record size seen seen disk (unless_torn size disk calls)
     none_written disk calls torn is =
         let here : is_torn size disk ≡ true = sym (torn_follows spelling size counts tells seen journal disk told sized kept is.stands) ∙ torn in
-        let stays : IsAfter spelling is_record size seen.image seen.image disk [] = record { image = refl; is_of = is } in
-        subst (λ (b : Bool). IsAfter spelling is_record size seen.image seen.image disk (cond b [] calls)) (sym here) stays
+        let stays : IsAfter spelling is_record size seen seen disk [] = record { image = refl; is_of = is; called = no_call seen seen refl } in
+        subst (λ (b : Bool). IsAfter spelling is_record size seen seen disk (cond b [] calls)) (sym here) stays
 
-    written : (new : Image) (disk : Disk R) (calls : List (Call R)) → journal.is_torn ≡ false → IsOf spelling is_record size seen.image disk → (is_torn size disk ≡ false → AllMayCome spelling size disk calls)
-        → AllByRecursion Writes calls → new ≡ image_after_calls spelling size disk seen.image calls → IsAfter spelling is_record size seen.image new disk (unless_torn size disk calls)
-    written new disk calls untorn is may are e =
+    written : (new : Seen) (disk : Disk R) (calls : List (Call R)) → journal.is_torn ≡ false → IsOf spelling is_record size seen.image disk → (is_torn size disk ≡ false → AllMayCome spelling size disk calls)
+        → AllByRecursion Writes calls → new.image ≡ image_after_calls spelling size disk seen.image calls → HasCalled (can_fail calls) seen new → IsAfter spelling is_record size seen new disk (unless_torn size disk calls)
+    written new disk calls untorn is may are e called =
         let here : is_torn size disk ≡ false = sym (torn_follows spelling size counts tells seen journal disk told sized kept is.stands) ∙ untorn in
-        subst (λ (b : Bool). IsAfter spelling is_record size seen.image new disk (cond b [] calls)) (sym here) (is_after seen.image new disk calls is (may here) are e)
+        subst (λ (b : Bool). IsAfter spelling is_record size seen new disk (cond b [] calls)) (sym here) (is_after seen new disk calls is (may here) are e called)
 
     module _ (entry : R) (untorn : journal.is_torn ≡ false) (payload : IsPayload (spelling entry)) (holds : is_record entry) where
-      pub note_follows : (new : Image) → new ≡ appended (frame (spelling entry)) seen.image → Follows spelling is_record size (Note entry) seen.image new
-      note_follows new e = λ disk is. written new disk (Append entry ∷ []) untorn is (λ whole. ((whole, payload), tt)) (holds, tt) e
+      pub note_follows : (new : Seen) → new.image ≡ appended (frame (spelling entry)) seen.image → HasCalled 1 seen new → Follows spelling is_record size (Note entry) seen new
+      note_follows new e called = λ disk is. written new disk (Append entry ∷ []) untorn is (λ whole. ((whole, payload), tt)) (holds, tt) e called
 
-      pub force_follows : (new : Image) → new ≡ all_synced (appended (frame (spelling entry)) seen.image) → Follows spelling is_record size (Force entry) seen.image new
-      force_follows new e = λ disk is. written new disk (Append entry ∷ Sync ∷ []) untorn is (λ whole. ((whole, payload), (tt, tt))) (holds, (tt, tt)) e
+      pub force_follows : (new : Seen) → new.image ≡ all_synced (appended (frame (spelling entry)) seen.image) → HasCalled 2 seen new → Follows spelling is_record size (Force entry) seen new
+      force_follows new e called = λ disk is. written new disk (Append entry ∷ Sync ∷ []) untorn is (λ whole. ((whole, payload), (tt, tt))) (holds, (tt, tt)) e called
 
-      pub check_follows : (forced new : Image) (entries : List (Entry R)) → forced ≡ all_synced (appended (frame (spelling entry)) seen.image) → entries ≡ journal.entries ++ as_written entry ∷ []
-          → new ≡ trimmed_to (spelled_size (entry_frame spelling) (before_last entries)) forced → Follows spelling is_record size (Check entry) seen.image new
-      check_follows forced new entries f listed e = λ disk is.
+      pub check_follows : (forced : Image) (new : Seen) (entries : List (Entry R)) → forced ≡ all_synced (appended (frame (spelling entry)) seen.image) → entries ≡ journal.entries ++ as_written entry ∷ []
+          → new.image ≡ trimmed_to (spelled_size (entry_frame spelling) (before_last entries)) forced → HasCalled 3 seen new → Follows spelling is_record size (Check entry) seen new
+      check_follows forced new entries f listed e called = λ disk is.
           let within = ends seen.image disk is.stands in
           let before : before_last entries ≡ journal.entries = ap before_last listed ∙ before_last_push journal.entries (as_written entry) in
           let front : spelled_size (entry_frame spelling) (before_last entries) ≡ bytes_of size disk.records - disk.trimmed =
           ap (spelled_size (entry_frame spelling)) before ∙ omega (arith, whole_follows spelling size counts tells seen journal disk told kept is.stands) in
-          let image : new ≡ trimmed_to (bytes_of size disk.records - disk.trimmed) (all_synced (appended (frame (spelling entry)) seen.image)) =
+          let image : new.image ≡ trimmed_to (bytes_of size disk.records - disk.trimmed) (all_synced (appended (frame (spelling entry)) seen.image)) =
           e ∙ ap (λ (n : ℕ). trimmed_to n forced) front ∙ ap (trimmed_to (bytes_of size disk.records - disk.trimmed)) f in
           let (lower, upper) = within in
           written new disk (Append entry ∷ Sync ∷ TrimFront ∷ []) untorn is
-          (λ whole. ((whole, payload), (tt, ((lower, omega (arith, upper)), tt)))) (holds, (tt, (tt, tt))) image
+          (λ whole. ((whole, payload), (tt, ((lower, omega (arith, upper)), tt)))) (holds, (tt, (tt, tt))) image called
 
-    pub cut_follows : (new : Image) → new ≡ synced_bytes (spelled (entry_frame spelling) journal.entries) → Follows spelling is_record size Cut seen.image new
-    cut_follows new e = λ disk is.
+    pub cut_follows : (new : Seen) → new.image ≡ synced_bytes (spelled (entry_frame spelling) journal.entries) → HasCalled 1 seen new → Follows spelling is_record size Cut seen new
+    cut_follows new e called = λ disk is.
         let n = bytes_of size disk.records - disk.trimmed in
         let counted : n ≡ spelled_size (entry_frame spelling) journal.entries = omega (arith, whole_follows spelling size counts tells seen journal disk told kept is.stands) in
         let cut : cut_to n seen.image ≡ synced_bytes (spelled (entry_frame spelling) journal.entries) = cut_image (entry_frame spelling) seen.image (cut_to n seen.image) journal.entries n (kept.records told) counted refl in
-        is_after seen.image new disk (CutBack ∷ []) is (tt, tt) (tt, tt) (e ∙ sym cut)
+        is_after seen new disk (CutBack ∷ []) is (tt, tt) (tt, tt) (e ∙ sym cut) called
 
-  pub stop_follows : (old new : Image) (cut : ℕ) → new ≡ stopped cut old → Follows spelling is_record size (Stop cut) old new
-  stop_follows old new cut e = λ disk is.
+  pub stop_follows : (old new : Seen) (cut : ℕ) → new.image ≡ stopped cut old.image → new.calls ≡ old.calls → Follows spelling is_record size (Stop cut) old new
+  stop_follows old new cut e same = λ disk is.
       let s = is.stands in
       let t = s.trimmed in
-      let synced : length s.front + old.synced ≡ disk.synced = s.all.synced in
-      is_after old new disk (Stops cut ∷ []) is (omega (arith, t, synced), tt) (tt, tt) e
+      let synced : length s.front + old.image.synced ≡ disk.synced = s.all.synced in
+      is_after old new disk (Stops cut ∷ []) is (omega (arith, t, synced), tt) (tt, tt) e (no_call old new same)
 
 -- ---- all calls
 
--- those of all calls that are left are before the ones that were made, and the bytes are those after these
-pub record Makes {R : Type 0} (spelling : R → List ℕ) (is_record : R → Type 0) (size : R → ℕ) (image : Image) (all left : List (JournalCall R)) : Type 0 where
+-- those of all calls that are left are before the ones that were made, each once, and the bytes are those after these
+pub record Makes {R : Type 0} (spelling : R → List ℕ) (is_record : R → Type 0) (size : R → ℕ) (start now : Seen) (all left : List (JournalCall R)) : Type 0 where
   pub made : List (JournalCall R)
   pub parts : all ≡ left ++ made
-  pub bytes : image ≡ bytes_after spelling size made
-  pub is_of : IsOf spelling is_record size image (disk_after size made)
+  pub bytes : now.image ≡ bytes_after spelling size made
+  pub is_of : IsOf spelling is_record size now.image (disk_after size made)
+  pub called : HasCalled (made_calls size made) start now
 
 module _ {R : Type 0} (spelling : R → List ℕ) (is_record : R → Type 0) (size : R → ℕ) (counts : CountsFrames spelling size) where
-  pub makes_none : (image : Image) (all : List (JournalCall R)) → length image.bytes ≡ 0 → IsSound image → Makes spelling is_record size image all all
-  makes_none image all none sound =
+  pub makes_none : (seen : Seen) (all : List (JournalCall R)) → length seen.image.bytes ≡ 0 → IsSound seen.image → Makes spelling is_record size seen seen all all
+  makes_none seen all none sound =
+      let image = seen.image in
       let empty : image ≡ no_bytes = image_is (nil_from_length image.bytes none) (omega (arith, none, sound)) in
       let stands : StandsFor spelling size no_bytes (empty_disk {Record = R}) = from_empty spelling size counts [] tt in
       record {
@@ -151,11 +155,12 @@ module _ {R : Type 0} (spelling : R → List ℕ) (is_record : R → Type 0) (si
         parts = sym (append-nil all);
         bytes = empty;
         is_of = record { stands = subst (λ (i : Image). StandsFor spelling size i (empty_disk {Record = R})) (sym empty) stands; are_records = tt };
+        called = no_call seen seen refl;
       }
 
-  pub makes_one : (old new : Image) (all left before : List (JournalCall R)) (call : JournalCall R) → left ≡ before ++ call ∷ [] → Makes spelling is_record size old all left
-      → Follows spelling is_record size call old new → Makes spelling is_record size new all before
-  makes_one old new all left before call popped m follows =
+  pub makes_one : (start old new : Seen) (all left before : List (JournalCall R)) (call : JournalCall R) → left ≡ before ++ call ∷ [] → Makes spelling is_record size start old all left
+      → Follows spelling is_record size call old new → Makes spelling is_record size start new all before
+  makes_one start old new all left before call popped m follows =
       let disk = disk_after size m.made in
       let after = follows disk m.is_of in
       record {
@@ -163,13 +168,15 @@ module _ {R : Type 0} (spelling : R → List ℕ) (is_record : R → Type 0) (si
         parts = m.parts ∙ ap (λ (l : List (JournalCall R)). l ++ m.made) popped ∙ append_assoc before (call ∷ []) m.made;
         bytes = after.image ∙ ap (λ (i : Image). image_after_calls spelling size disk i (calls_of size disk call)) m.bytes;
         is_of = after.is_of;
+        called = calls_add (made_calls size m.made) (can_fail (calls_of size disk call)) start old new m.called after.called;
       }
 
-  pub makes_all : (image : Image) (all left : List (JournalCall R)) → Makes spelling is_record size image all left → length left ≡ 0
-      → (image ≡ bytes_after spelling size all) × IsOf spelling is_record size image (disk_after size all)
-  makes_all image all left m none =
+  pub makes_all : (start now : Seen) (all left : List (JournalCall R)) → Makes spelling is_record size start now all left → length left ≡ 0
+      → (now.image ≡ bytes_after spelling size all) × IsOf spelling is_record size now.image (disk_after size all) × HasCalled (made_calls size all) start now
+  makes_all start now all left m none =
       let same : m.made ≡ all = sym (m.parts ∙ ap (λ (l : List (JournalCall R)). l ++ m.made) (nil_from_length left none)) in
-      subst (λ (l : List (JournalCall R)). (image ≡ bytes_after spelling size l) × IsOf spelling is_record size image (disk_after size l)) same (m.bytes, m.is_of)
+      subst (λ (l : List (JournalCall R)). (now.image ≡ bytes_after spelling size l) × IsOf spelling is_record size now.image (disk_after size l) × HasCalled (made_calls size l) start now) same
+      (m.bytes, m.is_of, m.called)
 
   -- the records that stand on the disk, as they are written
   abbrev pub standing_entries : Disk R → List (Entry R)

@@ -1,9 +1,9 @@
 -- Calls on a journal, as they are made one after the other, and what they are on the disk of the rules.
-use Rattle.std.specs.Prelude.{ℕ, ◌≡◌, cond, List, [], ◌∷◌}
+use Rattle.std.specs.Prelude.{ℕ, ◌≡◌, ◌+◌, cond, List, [], ◌∷◌}
 use Rattle.std.specs.List.{AllByRecursion}
 use Rattle.mdb_base.specs.Counts.{HasRisen}
 use Rattle.fed_rules.specs.Disk.{Call, Append, Sync, CutBack, TrimFront, Stops, Disk, after_calls, empty_disk, is_torn}
-use Rattle.journal_disk.specs.Disk.{Image, no_bytes}
+use Rattle.journal_disk.specs.Disk.{HasCalled, Image, Seen, no_bytes}
 use Rattle.journal_disk.specs.Frames.{IsPayload}
 use Rattle.journal_rules.specs.Stands.{StandsFor, image_after_calls}
 use Rattle.journal_rules.specs.declared.calls.JournalCall.{JournalCall}
@@ -51,6 +51,19 @@ bytes_after spelling size [] = no_bytes
 bytes_after spelling size (call ∷ earlier) =
     image_after_calls spelling size (disk_after size earlier) (bytes_after spelling size earlier) (calls_of size (disk_after size earlier) call)
 
+-- ---- how many they are
+
+-- how many of these can fail: all but the stops
+abbrev pub can_fail : {R : Type 0} → List (Call R) → ℕ
+can_fail [] = 0
+can_fail (Stops cut ∷ calls) = can_fail calls
+can_fail (call ∷ calls) = 1 + can_fail calls
+
+-- how many such calls of the disk these on the journal make, where none fails
+abbrev pub made_calls : {R : Type 0} → (R → ℕ) → List (JournalCall R) → ℕ
+made_calls size [] = 0
+made_calls size (call ∷ earlier) = made_calls size earlier + can_fail (calls_of size (disk_after size earlier) call)
+
 -- ---- a call at a time
 
 -- the bytes stand for this disk of the rules, and its records are read again
@@ -58,12 +71,13 @@ pub record IsOf {R : Type 0} (spelling : R → List ℕ) (is_record : R → Type
   pub stands : StandsFor spelling size image disk
   pub are_records : AllByRecursion is_record disk.records
 
--- the bytes are those after these calls, and stand for the disk after them
-pub record IsAfter {R : Type 0} (spelling : R → List ℕ) (is_record : R → Type 0) (size : R → ℕ) (old new : Image) (disk : Disk R) (calls : List (Call R)) : Type 0 where
-  pub image : new ≡ image_after_calls spelling size disk old calls
-  pub is_of : IsOf spelling is_record size new (after_calls size disk calls)
+-- these calls were made, each once: the bytes are those after them, and stand for the disk after them
+pub record IsAfter {R : Type 0} (spelling : R → List ℕ) (is_record : R → Type 0) (size : R → ℕ) (old new : Seen) (disk : Disk R) (calls : List (Call R)) : Type 0 where
+  pub image : new.image ≡ image_after_calls spelling size disk old.image calls
+  pub is_of : IsOf spelling is_record size new.image (after_calls size disk calls)
+  pub called : HasCalled (can_fail calls) old new
 
--- so they are after this call on the journal, whatever disk they stood for
-abbrev pub Follows : {R : Type 0} → (R → List ℕ) → (is_record : R → Type 0) → (R → ℕ) → JournalCall R → (old new : Image) → Type 0
+-- so it is after this call on the journal, whatever disk the bytes stood for
+abbrev pub Follows : {R : Type 0} → (R → List ℕ) → (is_record : R → Type 0) → (R → ℕ) → JournalCall R → (old new : Seen) → Type 0
 Follows {R} spelling is_record size call old new =
-    (disk : Disk R) → IsOf spelling is_record size old disk → IsAfter spelling is_record size old new disk (calls_of size disk call)
+    (disk : Disk R) → IsOf spelling is_record size old.image disk → IsAfter spelling is_record size old new disk (calls_of size disk call)

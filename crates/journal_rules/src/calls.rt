@@ -1,11 +1,12 @@
 //! Any calls on a journal, one after the other, and what is read of its disk at the end.
-ghost use Rattle.std.specs.Prelude.{◌≡◌, ◌≤◌, ◌<◌, ℕ, length, map, reverse, IfOk, OnOk, IsErrOf, IsTrue};
+ghost use Rattle.std.specs.Prelude.{◌≡◌, ◌≤◌, ◌<◌, ◌+◌, ℕ, length, map, reverse, IfOk, OnOk, IsErrOf, IsTrue};
 ghost use Rattle.std.specs.List.{AllByRecursion};
 ghost use Rattle.mdb_base.specs.Counts.{HasRisen};
 ghost use Rattle.fed_rules.specs.Disk.{journal as journal_of};
+ghost use Rattle.journal_disk.specs.Disk.{HasCalled, reads};
 ghost use Rattle.frame_journal.specs.Journal.{IsKeptOn};
 ghost use Rattle.frame_journal.specs.Records.{as_written, entry_frame, AreRecordsOf};
-ghost use Rattle.journal_rules.specs.Calls.{Follows, IsWritable, MayBeMade, NoneFailed, bytes_after, disk_after};
+ghost use Rattle.journal_rules.specs.Calls.{Follows, IsWritable, MayBeMade, NoneFailed, bytes_after, disk_after, made_calls};
 ghost use Rattle.journal_rules.specs.Stands.{StandsFor};
 
 use frame_journal::{Format, Journal};
@@ -26,7 +27,7 @@ pub enum JournalCall<R: Drop> {
 
 /// Makes these calls on the journal of an empty disk, the last one of the list first, of which the disk may fail any. What is then loaded
 /// are exactly the records whose frames are whole on the disk: none of them is no record, and none is damaged. Where no call failed, the
-/// bytes and the records are those of the rules after the same calls.
+/// bytes and the records are those of the rules after the same calls, and the disk had each of these calls once.
 pub fn load_after_calls<R: Drop, F: Format<R>, D: Disk>(
     alloc: Global,
     disk: &mut D,
@@ -40,6 +41,8 @@ pub fn load_after_calls<R: Drop, F: Format<R>, D: Disk>(
     ensures failed { IsErrOf result JournalErr.Failed → HasRisen (D.seen disk.old).faults (D.seen disk.new).faults }
     ensures loaded { IfOk result (λ journal. IsTrue D.tells → NoneFailed (D.seen disk.old).faults (D.seen disk.new).faults
         → journal.entries ≡ map as_written (reverse (journal_of F.frame_bytes (disk_after F.frame_bytes calls.items)))) }
+    ensures called { OnOk result (IsTrue D.tells → NoneFailed (D.seen disk.old).faults (D.seen disk.new).faults
+        → HasCalled (made_calls F.frame_bytes calls.items + reads (D.seen disk.new).size) (D.seen disk.old) (D.seen disk.new)) }
     ensures image { OnOk result (IsTrue D.tells → NoneFailed (D.seen disk.old).faults (D.seen disk.new).faults
         → (D.seen disk.new).image ≡ bytes_after F.spelling F.frame_bytes calls.items) }
     ensures stands { OnOk result (IsTrue D.tells → NoneFailed (D.seen disk.old).faults (D.seen disk.new).faults
@@ -67,7 +70,7 @@ fn make_call<R: Drop, F: Format<R>, D: Disk>(
     ensures kept_on { IsKeptOn F.spelling D.tells (D.seen disk.new) journal.new }
     ensures later { (D.seen disk.old).faults ≤ (D.seen disk.new).faults }
     ensures follows { OnOk result (IsTrue D.tells → NoneFailed (D.seen disk.old).faults (D.seen disk.new).faults
-        → Follows F.spelling F.is_record F.frame_bytes call (D.seen disk.old).image (D.seen disk.new).image) }
+        → Follows F.spelling F.is_record F.frame_bytes call (D.seen disk.old) (D.seen disk.new)) }
 {
     match call {
         JournalCall::Note(entry) => note(alloc, disk, journal, entry),
@@ -96,7 +99,7 @@ fn note<R: Drop, F: Format<R>, D: Disk>(
     ensures kept_on { IsKeptOn F.spelling D.tells (D.seen disk.new) journal.new }
     ensures later { (D.seen disk.old).faults ≤ (D.seen disk.new).faults }
     ensures follows { OnOk result (IsTrue D.tells → NoneFailed (D.seen disk.old).faults (D.seen disk.new).faults
-        → Follows F.spelling F.is_record F.frame_bytes (JournalCall.Note entry) (D.seen disk.old).image (D.seen disk.new).image) }
+        → Follows F.spelling F.is_record F.frame_bytes (JournalCall.Note entry) (D.seen disk.old) (D.seen disk.new)) }
 {
     if journal.is_torn() {
         return Ok(());
@@ -118,7 +121,7 @@ fn force<R: Drop, F: Format<R>, D: Disk>(
     ensures kept_on { IsKeptOn F.spelling D.tells (D.seen disk.new) journal.new }
     ensures later { (D.seen disk.old).faults ≤ (D.seen disk.new).faults }
     ensures follows { OnOk result (IsTrue D.tells → NoneFailed (D.seen disk.old).faults (D.seen disk.new).faults
-        → Follows F.spelling F.is_record F.frame_bytes (JournalCall.Force entry) (D.seen disk.old).image (D.seen disk.new).image) }
+        → Follows F.spelling F.is_record F.frame_bytes (JournalCall.Force entry) (D.seen disk.old) (D.seen disk.new)) }
 {
     if journal.is_torn() {
         return Ok(());
@@ -141,7 +144,7 @@ fn check<R: Drop, F: Format<R>, D: Disk>(
     ensures kept_on { IsKeptOn F.spelling D.tells (D.seen disk.new) journal.new }
     ensures later { (D.seen disk.old).faults ≤ (D.seen disk.new).faults }
     ensures follows { OnOk result (IsTrue D.tells → NoneFailed (D.seen disk.old).faults (D.seen disk.new).faults
-        → Follows F.spelling F.is_record F.frame_bytes (JournalCall.Check entry) (D.seen disk.old).image (D.seen disk.new).image) }
+        → Follows F.spelling F.is_record F.frame_bytes (JournalCall.Check entry) (D.seen disk.old) (D.seen disk.new)) }
 {
     if journal.is_torn() {
         return Ok(());

@@ -80,6 +80,7 @@ fn a_payload_of_65536_bytes_is_too_long(rt: HostRuntime) -> Result<(), Fail> {
         append_ones(alloc, &mut disk, 65_536),
         Some(Err(FrameErr::TooLong))
     );
+    assert_eq!(rt; disk.calls(), 1, "the append of one byte");
     assert!(rt; holds(alloc, &mut disk, &[7]));
     assert_eq!(rt; append_ones(alloc, &mut disk, 65_535), Some(Ok(())));
     assert_eq!(rt; disk.len(), 65_572);
@@ -105,6 +106,7 @@ fn both_versions_are_read_and_a_torn_rest_is_no_frame(rt: HostRuntime) -> Result
     assert_eq!(rt; append(alloc, &mut disk, &FRAME), Some(Ok(())));
     assert_eq!(rt; append(alloc, &mut disk, &FRAME[..42]), Some(Ok(())));
     let frames = Frames::read(alloc, &mut disk).ok().ok_or("no memory")?;
+    assert_eq!(rt; disk.calls(), 4, "three appends and a read");
     expect_both(&rt, &frames);
     Ok(())
 }
@@ -167,6 +169,7 @@ fn an_empty_disk_has_no_frame(rt: HostRuntime) -> Result<(), Fail> {
     let frames = Frames::read(alloc, &mut disk).ok().ok_or("no memory")?;
     assert!(rt; frames.is_empty());
     assert_eq!(rt; frames.whole(), 0);
+    assert_eq!(rt; disk.calls(), 0);
     Ok(())
 }
 

@@ -1,15 +1,14 @@
 -- What a site says to what is asked of it, from what its core says to the event that this comes to.
-use Rattle.std.proofs.Common.{◌≡◌, Bool, false, None, List, Result, Ok, Err, IfOk, IfErr, subst, ◌∙◌}
+use Rattle.std.proofs.Common.{◌≡◌, ◌+◌, Bool, false, None, List, Result, Ok, Err, IfOk, IfErr, subst, ◌∙◌}
 use Rattle.fed_rules.specs.declared.events.SiteEvent.{SiteEvent}
 use Rattle.fed_rules.specs.declared.events.SiteStep.{SiteStep}
 use Rattle.fed_rules.specs.Requests.{Request, Submits}
 use Rattle.fed_rules.specs.Runs.{Start, EngineLine}
-use Rattle.fed_rules.specs.Site.{site_line}
 use Rattle.journal_disk.specs.Disk.{Seen}
 use Rattle.actor_store.specs.declared.errors.StepErr.{StepErr}
 use Rattle.site_core.specs.declared.site.SiteCore.{SiteCore}
-use Rattle.site_core.specs.Stands.{Fails as CoreFails, Stands as CoreStands, Steps}
-use Rattle.site_core.specs.Steps.{CanStep, EachPast}
+use Rattle.site_core.specs.Stands.{beside_rules, calls_for}
+use Rattle.site_core.specs.Steps.{FailsOn as CoreFailsOn, StepsOn}
 use Rattle.local_dbms.specs.declared.asks.SiteAsk.{SiteAsk}
 use Rattle.local_dbms.specs.declared.dbms.LocalDbms.{LocalDbms}
 use Rattle.local_dbms.specs.Asks.{CanAsk, can_send, site_request}
@@ -22,7 +21,7 @@ module _ {E : Type 0} (stands : E → Start → List EngineLine → Type 0) (tel
     (may : Each_site (Recalls stands old) (λ home programs past. CanAsk ask home programs past → CanSubmit event home programs past)) where
   -- the core answers the event
   abbrev IsStep : SiteStep → Type 0
-  IsStep step = EachPast (CoreStands stands tells old.core before) (λ home past. CanStep event home past → Steps stands tells step core now home past (site_line home past event))
+  IsStep step = StepsOn stands tells old.core before core now event step
 
   -- and so the site what was asked
   abbrev IsTold : SiteStep → Type 0
@@ -34,7 +33,7 @@ module _ {E : Type 0} (stands : E → Start → List EngineLine → Type 0) (tel
       let r = recalled stands tells old before home programs past stood in
       let could : CanSubmit event home programs past = may home programs past r can in
       subst (λ (q : Request SiteEvent). Tells (Stands stands tells (record old { core = core }) now) step home programs past q) (asked home programs past r)
-      (tells_of stands tells old core now home programs past event stood.owns could.1 step (answered home past stood.core could.0))
+      (tells_of stands tells old core now home programs past event stood.owns could.1 (beside_rules event old.core before) before step (answered home past stood.core could.0))
 
   pub submitted : (result : Result SiteStep StepErr) → IfOk result IsStep → IfOk result IsTold
   submitted (Ok step) answered = told step answered
@@ -47,7 +46,7 @@ module _ {E : Type 0} (stands : E → Start → List EngineLine → Type 0) (tel
 
   -- or the core doesn't answer it
   abbrev IsCoreFailure : StepErr → Type 0
-  IsCoreFailure why = EachPast (CoreStands stands tells old.core before) (λ home past. CanStep event home past → CoreFails stands tells why core now home past event)
+  IsCoreFailure why = CoreFailsOn stands tells old.core before core now event why
 
   abbrev IsFailure : StepErr → Type 0
   IsFailure why = Each_site (Stands stands tells old before) (λ home programs past. CanAsk ask home programs past
@@ -58,7 +57,7 @@ module _ {E : Type 0} (stands : E → Start → List EngineLine → Type 0) (tel
       let r = recalled stands tells old before home programs past stood in
       let could : CanSubmit event home programs past = may home programs past r can in
       subst (λ (q : Request SiteEvent). Fails (Stands stands tells (record old { core = core }) now) why home programs past q) (asked home programs past r)
-      (fails stands tells old core now home programs past event stood.owns could.1 why (failed home past stood.core could.0))
+      (fails stands tells old core now home programs past event stood.owns could.1 (beside_rules event old.core before + calls_for home past event) before why (failed home past stood.core could.0))
 
   pub unsubmitted : (result : Result SiteStep StepErr) → IfErr result IsCoreFailure → IfErr result IsFailure
   unsubmitted (Ok step) failed = tt

@@ -1,5 +1,5 @@
 -- The event that a command of a local transaction comes to may come to the core, and fits the programs; and what a line leaves of what is stood for.
-use Rattle.std.proofs.Common.{◌≡◌, ◌≤◌, ◌<◌, ◌^◌, ◌⊎◌, Bool, true, false, not, is_some, IsSome, Some, None, List, length, inl, inr, refl, sym, ap, subst, arith}
+use Rattle.std.proofs.Common.{◌≡◌, ℕ, ◌≤◌, ◌<◌, ◌^◌, ◌⊎◌, Bool, true, false, not, is_some, IsSome, Some, None, List, length, inl, inr, refl, sym, ap, subst, arith}
 use Rattle.mdb_base.specs.declared.acts.PlainAct.{PlainAct}
 use Rattle.mdb_base.specs.declared.acts.Step.{Step}
 use Rattle.mdb_base.specs.declared.names.Tid.{Tid}
@@ -108,15 +108,15 @@ recalled stands tells dbms disk home programs past s = record { core = s.core.ho
 module _ {E : Type 0} (stands : E → Start → List EngineLine → Type 0) (tells : Bool) (old : LocalDbms E) (core : SiteCore E) (disk : Seen) (home : Home) (programs : OwnPrograms) (past : SitePast)
     (event : SiteEvent) (owns : Owns old.programs.items programs past) (fits : FitsPrograms programs past event) where
   -- the core answered
-  pub tells_of : (step : SiteStep) → Steps stands tells step core disk home past (site_line home past event) → Tells (Stands stands tells (record old { core = core }) disk) step home programs past (Submits event)
-  tells_of step s = record {
+  pub tells_of : (beside : ℕ) (before : Seen) (step : SiteStep) → Steps stands tells beside before step core disk home past (site_line home past event) → Tells (Stands stands tells (record old { core = core }) disk) step home programs past (Submits event)
+  tells_of beside before step s = record {
     said = s.answer;
     sent = s.sends;
     next = record { core = s.stood; owns = record { held = owns.held; named = owns.named; owned = owned_more home programs past event owns.owned fits } };
   }
 
   -- or it didn't
-  pub fails : (why : StepErr) → CoreFails stands tells why core disk home past event → Fails (Stands stands tells (record old { core = core }) disk) why home programs past (Submits event)
-  fails Err_is.Memory s = record { core = s; owns = owns }
-  fails Err_is.Disk (at, s, down) =
+  pub fails : (most : ℕ) (before : Seen) (why : StepErr) → CoreFails stands tells most before why core disk home past event → Fails (Stands stands tells (record old { core = core }) disk) why home programs past (Submits event)
+  fails most before Err_is.Memory (s, called) = record { core = s; owns = owns }
+  fails most before Err_is.Disk (at, s, down, called) =
       (at, record { core = s; owns = record { held = owns.held; named = owns.named; owned = owned_stopped home programs past event at owns.owned fits } }, down)

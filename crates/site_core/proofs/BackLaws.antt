@@ -24,7 +24,9 @@ use Rattle.fed_rules.specs.SitePast as Past
 use Rattle.fed_rules.specs.SiteRecords.{Held, Home, doubt_of, doubts, epoch_of, kept_held, local_of, site_frame, start_of}
 use Rattle.fed_rules.specs.SiteSums.{site_sum}
 use Rattle.engine_contract.specs.Calls.{start_from}
-use Rattle.journal_disk.specs.Disk.{Seen}
+use Rattle.journal_disk.specs.Disk.{HasCalled, HasCalledAtMost, Seen}
+use Rattle.journal_rules.specs.Calls.{can_fail}
+use Rattle.journal_rules.proofs.ForCallers.{starting_calls}
 use Rattle.prepared_state.specs.Book.{AreApart, doubt_about}
 use Rattle.journal_sums.specs.Starts.{doubt_held}
 use Rattle.site_journal.specs.Exact.{spelled_is_read}
@@ -34,8 +36,8 @@ use Rattle.actor_store.specs.declared.errors.StepErr.TheVariants as Err_is
 use Rattle.actor_store.specs.declared.store.Break.TheVariants.{Stopped, Failed}
 use Rattle.actor_store.specs.declared.store.Standing.{Standing}
 use Rattle.actor_store.specs.declared.store.Standing.TheVariants.{Up, Down, Failing}
-use Rattle.actor_store.specs.Store.{Passes, is_up}
-use Rattle.actor_store.proofs.ForCallers.{from_later, from_trip, settled}
+use Rattle.actor_store.specs.Store.{Called, Passes, is_up}
+use Rattle.actor_store.proofs.ForCallers.{called_stopped, from_later, from_trip, settled}
 use Rattle.rules_laws.proofs.ForCallers.{epoch_same}
 use Rattle.site_history.proofs.ForCallers.{all_within, once_doubts}
 use Rattle.site_book.specs.Book.{Book, begun_in, committed_in, restarted}
@@ -46,10 +48,11 @@ use Rattle.site_core.specs.declared.site.SiteCore.{SiteCore}
 use Rattle.site_core.specs.Made.{IsGoingOn, opens, was_found}
 use Rattle.site_core.specs.Notes.{Notes}
 use Rattle.site_core.specs.Recovered.{held_tid}
-use Rattle.site_core.specs.Stands.{Answers, Breaks, Carries, IsIn, IsOfKind, IsStopped, IsUp, Remembers, Stands}
+use Rattle.site_core.specs.Stands.{Answers, Breaks, Carries, IsIn, IsOfKind, IsStopped, IsUp, Remembers, Stands, calls_for}
 use Rattle.site_core.specs.Store.{Ends, Keeps, Store, cut_calls}
 use Rattle.commit_laws.proofs.ForCallers.{restored-sealed}
 use Rattle.journal_sums.proofs.ForCallers.{apart_once}
+use Rattle.site_core.proofs.CalledLaws.{start_calls}
 use Rattle.site_core.proofs.MadeLaws.{made_starts}
 use Rattle.site_core.proofs.NotesLaws.{IsKnown, order_restarted}
 use Rattle.site_core.proofs.OnceLaws.{AppendsOnce, once_calls, once_stopped}
@@ -77,6 +80,10 @@ back_appends n rules = by_test (is_torn site_frame rules) where
   by_test : (t : Bool) → AppendsOnce rules (cond t (CutBack ∷ []) [] ++ Append (Rec.Start n) ∷ Sync ∷ [])
   by_test true = tt
   by_test false = tt
+
+-- each of them can fail
+back_fail : (n : ℕ) (rules : Disk SiteRecord) → can_fail (back_calls n rules) ≡ length (back_calls n rules)
+back_fail n rules = starting_calls (is_torn site_frame rules) (Append (Rec.Start n) ∷ Sync ∷ []) refl
 
 -- the rule's line
 back_is : (home : Home) (past : SitePast) (n doubtful : ℕ) → n ≡ epoch home past + 1 → doubtful ≡ length (doubts (Past.records home past)) → of_back home past ≡ up_line n doubtful home past
@@ -169,8 +176,9 @@ module _ {E : Type 0} (stands : E → Lines.Start → List EngineLine → Type 0
       → new.book ≡ restarted sum.locals (map held_tid sum.doubtful) old.book
       → ((tid : Tid) → doubt_about tid new.doubts.doubts ≡ doubt_about tid (map doubt_held sum.doubtful))
       → new.protocol ≡ old.protocol → step ≡ record { answer = Say.UpSite new.epoch doubtful; sends = None }
-      → Answers stands tells step new disk' home past (site_line home past Ev.Back)
-  back_done old new step disk disk' home past sum doubtful k down is count next ends now engine book doubts_are protocol says =
+      → (beside : ℕ) → HasCalled (beside + length (back_calls new.epoch (Past.disk home past))) disk disk'
+      → Answers stands tells beside disk step new disk' home past (site_line home past Ev.Back)
+  back_done old new step disk disk' home past sum doubtful k down is count next ends now engine book doubts_are protocol says beside called =
       let m = k.holds.memory in
       let n = new.epoch in
       let y = up_line n doubtful home past in
@@ -181,7 +189,8 @@ module _ {E : Type 0} (stands : E → Lines.Start → List EngineLine → Type 0
       let records_are : Past.records home (y ∷ past) ≡ Rec.Start n ∷ rs = back_records n (Past.disk home past) in
       let here = recovered_up stands old new home past sum y m is records_are (ap (λ (d : ℕ). Say.UpSite n d) count) engine book doubts_are in
       let P : Standing → Type 0 = λ s. IsIn stands new s home (y ∷ past) in
-      answers_as stands tells step new disk' home past _ y (line ∙ passes_is home past y ends.0)
+      let H : ℕ → Type 0 = λ m. HasCalled (beside + m) disk disk' in
+      answers_as stands tells beside disk step new disk' home past _ y (line ∙ passes_is home past y ends.0)
       (record {
         answer = ap (λ (s : SiteStep). s.answer) says;
         sends = ap (λ (s : SiteStep). option_to_list s.sends) says;
@@ -198,6 +207,7 @@ module _ {E : Type 0} (stands : E → Lines.Start → List EngineLine → Type 0
           };
           stored = from_later (opens y) ends.1;
         };
+        called = subst H (sym (back_fail n (Past.disk home past))) called;
       })
 
   -- a start that a trip stopped
@@ -206,8 +216,9 @@ module _ {E : Type 0} (stands : E → Lines.Start → List EngineLine → Type 0
       → Ends {A = ℕ} (Keeps (was_found past) tells disk' new.store) (Past.disk home past) (Past.trip past) (back_calls new.epoch (Past.disk home past)) (Err (Stopped kept))
       → is_up new.store.standing ≡ false → IsOfKind stands new.engine home.engine → ((tx : Tx) → begun_in new.book tx ≡ begun_in old.book tx) → new.protocol ≡ old.protocol
       → step ≡ record { answer = Say.Stopped kept; sends = None }
-      → Answers stands tells step new disk' home past (site_line home past Ev.Back)
-  back_stopped old new step disk disk' home past sum kept k down is next (set, trip, within, keeps, count) still engine begun protocol says =
+      → (beside : ℕ) → Called {A = ℕ} beside (Past.trip past) (back_calls new.epoch (Past.disk home past)) disk disk' (Err (Stopped kept))
+      → Answers stands tells beside disk step new disk' home past (site_line home past Ev.Back)
+  back_stopped old new step disk disk' home past sum kept k down is next (set, trip, within, keeps, count) still engine begun protocol says beside called =
       let m = k.holds.memory in
       let n = new.epoch in
       let rs = Past.records home past in
@@ -215,12 +226,13 @@ module _ {E : Type 0} (stands : E → Lines.Start → List EngineLine → Type 0
       let line = back_down home past (down_is stands old home past m down) ∙ ap (unless_tripped home past) (back_is home past n (length (doubts rs)) next_is refl) in
       let all = back_calls n (Past.disk home past) in
       let calls : List (Call SiteRecord) = take set.calls all ++ Stops set.cut ∷ [] in
-      answers_as stands tells step new disk' home past _ (stop_line home past Ev.Back calls) (line ∙ trips_is home past (up_line n (length (doubts rs)) home past) set trip within)
+      answers_as stands tells beside disk step new disk' home past _ (stop_line home past Ev.Back calls) (line ∙ trips_is home past (up_line n (length (doubts rs)) home past) set trip within)
       (record {
         answer = ap (λ (s : SiteStep). s.answer) says ∙ ap (λ (j : ℕ). Say.Stopped j) count;
         sends = ap (λ (s : SiteStep). option_to_list s.sends) says;
         carries = carries_stop stands tells new disk' home past Ev.Back calls keeps still engine (λ tx. begun tx ∙ m.begun tx) (protocol ∙ m.protocol)
             (once_stopped (Past.disk home past) set.calls set.cut all (back_appends n (Past.disk home past)) m.once);
+        called = called_stopped beside (Past.trip past) set all disk disk' kept (back_fail n (Past.disk home past)) trip within called;
       })
 
   -- a start whose disk call failed
@@ -228,8 +240,9 @@ module _ {E : Type 0} (stands : E → Lines.Start → List EngineLine → Type 0
       → sum ≡ site_sum home (Past.records home past) → new.epoch ≡ sum.epoch + 1
       → Ends {A = ℕ} (Keeps (was_found past) tells disk' new.store) (Past.disk home past) (Past.trip past) (back_calls new.epoch (Past.disk home past)) (Err Failed)
       → is_up new.store.standing ≡ false → IsOfKind stands new.engine home.engine → ((tx : Tx) → begun_in new.book tx ≡ begun_in old.book tx) → new.protocol ≡ old.protocol
-      → Breaks stands tells Err_is.Disk new disk' home past Ev.Back
-  back_failed old new disk disk' home past sum k down is next ends still engine begun protocol =
+      → (beside : ℕ) → HasCalledAtMost (beside + length (back_calls new.epoch (Past.disk home past))) disk disk'
+      → Breaks stands tells (beside + calls_for home past Ev.Back) disk Err_is.Disk new disk' home past Ev.Back
+  back_failed old new disk disk' home past sum k down is next ends still engine begun protocol beside called =
       let m = k.holds.memory in
       let n = new.epoch in
       let rs = Past.records home past in
@@ -238,23 +251,25 @@ module _ {E : Type 0} (stands : E → Lines.Start → List EngineLine → Type 0
       let next_is : n ≡ epoch home past + 1 = next ∙ ap (λ (e : ℕ). e + 1) (ap (λ (s : SiteSum). s.epoch) is ∙ epoch_same rs) in
       let goes : GoesOn home past Ev.Back (up_line n (length (doubts rs)) home past) = λ calls cut.
       back_down home (trip_line calls cut ∷ past) here ∙ ap (unless_tripped home (trip_line calls cut ∷ past)) (back_goes home past calls cut ∙ back_is home past n (length (doubts rs)) next_is refl) in
-      breaks_start stands tells new disk' home past Ev.Back (up_line n (length (doubts rs)) home past) here goes
+      let M : List (Call SiteRecord) → Type 0 = λ cs. HasCalledAtMost (beside + length cs) disk disk' in
+      let line = start_calls home past (up_line n (length (doubts rs)) home past) (back_is home past n (length (doubts rs)) next_is refl) in
+      breaks_start stands tells (beside + calls_for home past Ev.Back) disk new disk' home past Ev.Back (up_line n (length (doubts rs)) home past) here goes
       (settled spelling reading IsRecord site_frame frame_has_size spelled_is_read old.store.standing old.store.journal (Past.disk home past) down k.stored.behind.in_order) (all_within home past)
-      ends still engine stopped.start stopped.lines (λ tx. begun tx ∙ m.begun tx) (protocol ∙ m.protocol) (back_appends n (Past.disk home past)) m.once
+      ends still engine stopped.start stopped.lines (λ tx. begun tx ∙ m.begun tx) (protocol ∙ m.protocol) (back_appends n (Past.disk home past)) m.once (subst M (sym line) called)
 
   -- a read of the records that failed: the site stays down, and the trip is disarmed
   pub read_failed : (old new : SiteCore E) (store : Store) (disk disk' : Seen) (home : Home) (past : SitePast) → Stands stands tells old disk home past → is_up old.store.standing ≡ false
       → Keeps (was_found past) tells disk' store (Past.disk home past) (Past.trip past) → store.standing ≡ old.store.standing → new ≡ record old { store = record store { trip = None } }
-      → Breaks stands tells Err_is.Disk new disk' home past Ev.Back
-  read_failed old new store disk disk' home past k down kept standing is =
+      → (most : ℕ) → HasCalledAtMost most disk disk' → Breaks stands tells most disk Err_is.Disk new disk' home past Ev.Back
+  read_failed old new store disk disk' home past k down kept standing is most called =
       let m = k.holds.memory in
       let stopped = stopped_at stands old home past m down in
       let disarmed : Keeps (was_found past) tells disk' (record store { trip = None }) (Past.disk home past) None = from_trip kept None refl tt in
       let S : Store → Type 0 = λ s. Keeps (was_found past) tells disk' s (Past.disk home past) None in
       let store_is : new.store ≡ record store { trip = None } = ap (λ (c : SiteCore E). c.store) is in
       let K : E → Type 0 = λ e. IsOfKind stands e home.engine in
-      breaks_down stands tells new disk' home past Ev.Back (down_is stands old home past m down) (subst S (sym store_is) disarmed) (ap (λ (s : Store). is_up s.standing) store_is ∙ ap is_up standing ∙ down)
-      (subst K (sym (ap (λ (c : SiteCore E). c.engine) is)) stopped.engine) stopped.start stopped.lines (λ tx. ap (λ (c : SiteCore E). begun_in c.book tx) is ∙ m.begun tx) (ap (λ (c : SiteCore E). c.protocol) is ∙ m.protocol) m.once
+      breaks_down stands tells most disk new disk' home past Ev.Back (down_is stands old home past m down) (subst S (sym store_is) disarmed) (ap (λ (s : Store). is_up s.standing) store_is ∙ ap is_up standing ∙ down)
+      (subst K (sym (ap (λ (c : SiteCore E). c.engine) is)) stopped.engine) stopped.start stopped.lines (λ tx. ap (λ (c : SiteCore E). begun_in c.book tx) is ∙ m.begun tx) (ap (λ (c : SiteCore E). c.protocol) is ∙ m.protocol) m.once called
 
   -- a site that stays down, in other memory and on a disk that keeps the same
   pub stays_down : (old new : SiteCore E) (disk disk' : Seen) (home : Home) (past : SitePast) → Stands stands tells old disk home past → is_up old.store.standing ≡ false

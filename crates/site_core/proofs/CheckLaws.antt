@@ -1,5 +1,5 @@
 -- A Checkpoint: what the core stands for behind it.
-use Rattle.std.proofs.Common.{◌≡◌, ℕ, Bool, true, false, None, Err, List, [], ◌∷◌, ◌++◌, take, refl, sym, ap, ◌∙◌, subst, arith}
+use Rattle.std.proofs.Common.{◌≡◌, ℕ, ◌+◌, Bool, true, false, None, Err, List, [], ◌∷◌, ◌++◌, length, take, refl, sym, ap, ◌∙◌, subst, arith}
 use Rattle.std.specs.Prelude.{nat_lt, option_to_list}
 use Rattle.std.proofs.lemmas.Bool.{ltb-false}
 use Rattle.mdb_base.specs.Words.{when}
@@ -18,19 +18,21 @@ use Rattle.fed_rules.specs.SitePast.{SiteHappening, SitePast, engine_lines, epoc
 use Rattle.fed_rules.specs.SitePast as Past
 use Rattle.fed_rules.specs.SiteRecords.{Home, local_of, site_frame, site_payload}
 use Rattle.fed_rules.specs.SiteSums.{site_sum}
-use Rattle.journal_disk.specs.Disk.{Seen}
+use Rattle.journal_disk.specs.Disk.{HasCalled, HasCalledAtMost, Seen}
 use Rattle.journal_disk.specs.Frames.{IsPayload}
 use Rattle.site_journal.specs.Spelling.{spelling}
 use Rattle.actor_store.specs.declared.errors.StepErr.TheVariants as Err_is
 use Rattle.actor_store.specs.declared.store.Break.TheVariants.{Stopped, Failed}
 use Rattle.actor_store.specs.declared.store.Standing.{Standing}
 use Rattle.actor_store.specs.declared.store.Standing.TheVariants.{Up, Down, Failing}
-use Rattle.actor_store.specs.Store.{Passes, is_up}
+use Rattle.actor_store.specs.Store.{Called, Passes, is_up}
+use Rattle.actor_store.proofs.ForCallers.{called_stopped}
 use Rattle.site_book.specs.Book.{begun_in}
 use Rattle.site_core.specs.declared.site.SiteCore.{SiteCore}
-use Rattle.site_core.specs.Stands.{Answers, Breaks, Carries, IsIn, IsOfKind, IsUp, Stands}
+use Rattle.site_core.specs.Stands.{Answers, Breaks, Carries, IsIn, IsOfKind, IsUp, Stands, calls_for}
 use Rattle.site_core.specs.Made.{was_found}
 use Rattle.site_core.specs.Store.{Ends, Keeps}
+use Rattle.site_core.proofs.CalledLaws.{check_calls}
 use Rattle.site_core.proofs.LineLaws.{check_up}
 use Rattle.site_core.proofs.NotesLaws.{notes_same}
 use Rattle.site_core.proofs.OnceLaws.{once_stopped}
@@ -68,7 +70,7 @@ check_goes home past calls cut = refl
 module _ {E : Type 0} (stands : E → Lines.Start → List EngineLine → Type 0) (tells : Bool) where
   pub check_large : (core : SiteCore E) (step : SiteStep) (disk : Seen) (home : Home) (past : SitePast) (sum : SiteSum) → Stands stands tells core disk home past → core.store.standing ≡ Up
       → sum ≡ site_sum home (Past.records home past) → nat_lt longest (site_payload (Rec.Checkpoint sum)) ≡ true → step ≡ record { answer = Say.Large; sends = None }
-      → Answers stands tells step core disk home past (unless_tripped home past (of_check home past))
+      → Answers stands tells 0 disk step core disk home past (unless_tripped home past (of_check home past))
   check_large core step disk home past sum k up is large says =
       answers_quiet stands tells step core core disk home past _ (quiet Ev.Check Say.Large) k refl refl (ap (unless_tripped home past) (large_is home past sum is large))
       (adds_quiet stands core home past step Ev.Check Say.Large k.holds up refl refl refl (λ t. refl) (λ tx. refl) says)
@@ -76,9 +78,9 @@ module _ {E : Type 0} (stands : E → Lines.Start → List EngineLine → Type 0
   pub check_done : (old new : SiteCore E) (step : SiteStep) (disk disk' : Seen) (home : Home) (past : SitePast) (sum : SiteSum) → Stands stands tells old disk home past → old.store.standing ≡ Up
       → sum ≡ site_sum home (Past.records home past) → nat_lt longest (site_payload (Rec.Checkpoint sum)) ≡ false
       → Passes (Past.trip past) 3 × Keeps (was_found past) tells disk' new.store (after_calls site_frame (Past.disk home past) (check_line sum).calls) (used 3 (Past.trip past))
-      → new.store.standing ≡ Up → new ≡ record old { store = new.store } → step ≡ record { answer = Say.Checked; sends = None }
-      → Answers stands tells step new disk' home past (unless_tripped home past (of_check home past))
-  check_done old new step disk disk' home past sum k up is small ends now same says =
+      → new.store.standing ≡ Up → new ≡ record old { store = new.store } → step ≡ record { answer = Say.Checked; sends = None } → HasCalled 3 disk disk'
+      → Answers stands tells 0 disk step new disk' home past (unless_tripped home past (of_check home past))
+  check_done old new step disk disk' home past sum k up is small ends now same says called =
       let y = check_line sum in
       let m = k.holds.memory in
       let u = is_up_at stands old home past m up in
@@ -87,43 +89,49 @@ module _ {E : Type 0} (stands : E → Lines.Start → List EngineLine → Type 0
       u.notes refl refl (λ v. closed_same past y v refl refl refl) (λ tx. refl) in
       let here : IsUp stands (record old { store = new.store }) home (y ∷ past) = up_line stands old (record old { store = new.store }) home past y p u u.engine notes refl (λ t. refl) refl refl in
       let P : SiteCore E → Type 0 = λ c. IsUp stands c home (y ∷ past) in
-      answers_as stands tells step new disk' home past _ y (ap (unless_tripped home past) (check_is home past sum is small) ∙ passes_is home past y ends.0)
+      answers_as stands tells 0 disk step new disk' home past _ y (ap (unless_tripped home past) (check_is home past sum is small) ∙ passes_is home past y ends.0)
       (record {
         answer = ap (λ (s : SiteStep). s.answer) says;
         sends = ap (λ (s : SiteStep). option_to_list s.sends) says;
         carries = carries_line stands tells old new disk' home past y m up ends.1 now p (subst P (sym same) here) (λ tx. ap (λ (c : SiteCore E). begun_in c.book tx) same ∙ m.begun tx) (ap (λ (c : SiteCore E). c.protocol) same) tt;
+        called = called;
       })
 
   pub check_stopped : (old new : SiteCore E) (step : SiteStep) (disk disk' : Seen) (home : Home) (past : SitePast) (sum : SiteSum) (kept : ℕ) → Stands stands tells old disk home past → old.store.standing ≡ Up
       → sum ≡ site_sum home (Past.records home past) → nat_lt longest (site_payload (Rec.Checkpoint sum)) ≡ false
       → Ends {A = ℕ} (Keeps (was_found past) tells disk' new.store) (Past.disk home past) (Past.trip past) (check_line sum).calls (Err (Stopped kept))
       → is_up new.store.standing ≡ false → new ≡ record old { store = new.store } → step ≡ record { answer = Say.Stopped kept; sends = None }
-      → Answers stands tells step new disk' home past (unless_tripped home past (of_check home past))
-  check_stopped old new step disk disk' home past sum kept k up is small (set, trip, within, keeps, count) down same says =
+      → Called {A = ℕ} 0 (Past.trip past) (check_line sum).calls disk disk' (Err (Stopped kept))
+      → Answers stands tells 0 disk step new disk' home past (unless_tripped home past (of_check home past))
+  check_stopped old new step disk disk' home past sum kept k up is small (set, trip, within, keeps, count) down same says called =
       let y = check_line sum in
       let m = k.holds.memory in
       let calls : List (Call SiteRecord) = take set.calls y.calls ++ Stops set.cut ∷ [] in
       let K : E → Type 0 = λ e. IsOfKind stands e home.engine in
-      answers_as stands tells step new disk' home past _ (stop_line home past y.event calls) (ap (unless_tripped home past) (check_is home past sum is small) ∙ trips_is home past y set trip within)
+      answers_as stands tells 0 disk step new disk' home past _ (stop_line home past y.event calls) (ap (unless_tripped home past) (check_is home past sum is small) ∙ trips_is home past y set trip within)
       (record {
         answer = ap (λ (s : SiteStep). s.answer) says ∙ ap (λ (n : ℕ). Say.Stopped n) count;
         sends = ap (λ (s : SiteStep). option_to_list s.sends) says;
         carries = carries_stop stands tells new disk' home past y.event calls keeps down (subst K (sym (ap (λ (c : SiteCore E). c.engine) same)) (kind_at stands old home past m))
             (λ tx. ap (λ (c : SiteCore E). begun_in c.book tx) same ∙ m.begun tx) (ap (λ (c : SiteCore E). c.protocol) same ∙ m.protocol) (once_stopped (Past.disk home past) set.calls set.cut y.calls tt m.once);
+        called = called_stopped 0 (Past.trip past) set y.calls disk disk' kept refl trip within called;
       })
 
   pub check_failed : (old new : SiteCore E) (disk disk' : Seen) (home : Home) (past : SitePast) (sum : SiteSum) → Stands stands tells old disk home past → old.store.standing ≡ Up
       → sum ≡ site_sum home (Past.records home past) → nat_lt longest (site_payload (Rec.Checkpoint sum)) ≡ false
       → Ends {A = ℕ} (Keeps (was_found past) tells disk' new.store) (Past.disk home past) (Past.trip past) (check_line sum).calls (Err Failed)
-      → is_up new.store.standing ≡ false → new ≡ record old { store = new.store } → Breaks stands tells Err_is.Disk new disk' home past Ev.Check
-  check_failed old new disk disk' home past sum k up is small ends down same =
+      → is_up new.store.standing ≡ false → new ≡ record old { store = new.store } → HasCalledAtMost 3 disk disk'
+      → Breaks stands tells (0 + calls_for home past Ev.Check) disk Err_is.Disk new disk' home past Ev.Check
+  check_failed old new disk disk' home past sum k up is small ends down same called =
       let m = k.holds.memory in
       let here = up_is stands old home past m up in
       let K : E → Type 0 = λ e. IsOfKind stands e home.engine in
       let goes : GoesOn home past Ev.Check (check_line sum) = λ calls cut.
       check_up home (trip_line calls cut ∷ past) here ∙ ap (unless_tripped home (trip_line calls cut ∷ past)) (check_goes home past calls cut ∙ check_is home past sum is small) in
-      breaks_up stands tells new disk' home past Ev.Check (check_line sum) here goes ends down (subst K (sym (ap (λ (c : SiteCore E). c.engine) same)) (kind_at stands old home past m))
+      let M : List (Call SiteRecord) → Type 0 = λ calls. HasCalledAtMost (0 + length calls) disk disk' in
+      breaks_up stands tells (0 + calls_for home past Ev.Check) disk new disk' home past Ev.Check (check_line sum) here goes ends down (subst K (sym (ap (λ (c : SiteCore E). c.engine) same)) (kind_at stands old home past m))
       (λ tx. ap (λ (c : SiteCore E). begun_in c.book tx) same ∙ m.begun tx) (ap (λ (c : SiteCore E). c.protocol) same ∙ m.protocol) tt m.once
+      (subst M (sym (check_calls home past (check_line sum) (check_is home past sum is small))) called)
 
   -- a store with more room, where nothing else changed
   pub roomier : (old new : SiteCore E) (disk disk' : Seen) (home : Home) (past : SitePast) → Stands stands tells old disk home past

@@ -23,14 +23,14 @@ use Rattle.fed_rules.specs.Site.{number_of, of_commit, seals_local, stop_of, unl
 use Rattle.fed_rules.specs.SitePast.{SiteHappening, SitePast, attempts_of, ends, engine_lines, epoch_start, is_closed, live, live_one}
 use Rattle.fed_rules.specs.SitePast as Past
 use Rattle.fed_rules.specs.SiteRecords.{Home, local_of, site_frame}
-use Rattle.journal_disk.specs.Disk.{Seen}
+use Rattle.journal_disk.specs.Disk.{HasCalled, HasCalledAtMost, Seen}
 use Rattle.journal_disk.specs.Frames.{IsPayload}
 use Rattle.site_journal.specs.Spelling.{spelling}
 use Rattle.engine_contract.specs.Calls.{SealsRun}
 use Rattle.actor_store.specs.declared.errors.StepErr.TheVariants as Err_is
 use Rattle.actor_store.specs.declared.store.Break.TheVariants.{Stopped, Failed}
 use Rattle.actor_store.specs.declared.store.Standing.TheVariants.{Up}
-use Rattle.actor_store.specs.Store.{Passes, is_up}
+use Rattle.actor_store.specs.Store.{Called, Passes, is_up}
 use Rattle.site_book.specs.declared.progress.Standing.{Standing as Book_standing}
 use Rattle.site_book.specs.declared.progress.Standing.TheVariants as Has
 use Rattle.site_book.specs.Book.{Book, begun_in, commits_local, committed_part, live_in, running_in, running_part, standing_of}
@@ -39,8 +39,9 @@ use Rattle.site_core.specs.declared.site.SiteCore.{SiteCore}
 use Rattle.site_core.specs.Made.{was_global, was_found}
 use Rattle.site_core.specs.Notes.{Notes}
 use Rattle.site_core.specs.Sealing.{SealsLive, StandsSealing}
-use Rattle.site_core.specs.Stands.{Answers, Breaks, Stands}
+use Rattle.site_core.specs.Stands.{Answers, Breaks, Stands, calls_for}
 use Rattle.site_core.specs.Store.{Ends, Keeps}
+use Rattle.site_core.proofs.CalledLaws.{commit_calls}
 use Rattle.site_core.proofs.LineLaws.{HasLive, commit_seals, commit_up, local_runs}
 use Rattle.site_core.proofs.NotesLaws.{committed_commits, known_before, notes_change, order_commits}
 use Rattle.site_core.proofs.OnceLaws.{AppendsOnce}
@@ -152,9 +153,9 @@ module _ {E : Type 0} (stands : E → Lines.Start → List EngineLine → Type 0
       → Passes (Past.trip past) 2 × Keeps (was_found past) tells disk' new.store (after_calls site_frame (Past.disk home past) (commit_line tid sealed).calls) (used 2 (Past.trip past))
       → new.store.standing ≡ Up → new ≡ record old { engine = new.engine; book = commits_local tid old.book; store = new.store }
       → stands new.engine (epoch_start home past) (Commits tid ∷ Seals tid sealed.number ∷ engine_lines past)
-      → step ≡ record { answer = Say.Sealed tid sealed.number; sends = None }
-      → Answers stands tells step new disk' home past (unless_tripped home past (of_commit home past tid))
-  commit_done old new step disk disk' home past k up local ends now is engine says =
+      → step ≡ record { answer = Say.Sealed tid sealed.number; sends = None } → HasCalled 2 disk disk'
+      → Answers stands tells 0 disk step new disk' home past (unless_tripped home past (of_commit home past tid))
+  commit_done old new step disk disk' home past k up local ends now is engine says called =
       let y = commit_line tid sealed in
       let before : SiteCore E = record old { engine = k.engine } in
       let u = before_up stands tells tid sealed old disk home past k up in
@@ -173,13 +174,14 @@ module _ {E : Type 0} (stands : E → Lines.Start → List EngineLine → Type 0
       (λ run e. absurd (none_is run (sym (ap live_one (cond-true _ _ _ (same_tid-refl tid) ∙ commits_none (run_at (epoch_start home past) (Seals tid sealed.number ∷ engine_lines past) tid))) ∙ e))) in
       let book : new.book ≡ commits_local tid old.book = ap (λ (c : SiteCore E). c.book) is in
       let N : Book → Type 0 = λ b. Notes b (epoch_start home past) (y.lines ++ engine_lines past) (is_closed (y ∷ past)) (local_of (Past.records home (y ∷ past))) (y ∷ past) in
-      answers_as stands tells step new disk' home past (unless_tripped home past (of_commit home past tid)) y (ap (unless_tripped home past) (commit_is tid sealed home past k.seals) ∙ passes_is home past y ends.0)
+      answers_as stands tells 0 disk step new disk' home past (unless_tripped home past (of_commit home past tid)) y (ap (unless_tripped home past) (commit_is tid sealed home past k.seals) ∙ passes_is home past y ends.0)
       (record {
         answer = ap (λ (s : SiteStep). s.answer) says;
         sends = ap (λ (s : SiteStep). option_to_list s.sends) says;
         carries = carries_line stands tells before new disk' home past y m up ends.1 now p
             (up_line stands before new home past y p u engine (subst N (sym book) notes) (ap (λ (c : SiteCore E). c.doubts) is) (λ t. refl) (ap (λ (c : SiteCore E). c.epoch) is) refl)
             (λ tx. ap (λ (b : Book). begun_in b tx) book ∙ m.begun tx) (ap (λ (c : SiteCore E). c.protocol) is) (uncommitted, tt);
+        called = called;
       }) where
         commits_none : (o : Option Run) → changed (Commits tid) o ≡ None
         commits_none None = refl
@@ -192,22 +194,23 @@ module _ {E : Type 0} (stands : E → Lines.Start → List EngineLine → Type 0
       → old.store.standing ≡ Up → was_global tid.tx past ≡ false
       → Ends {A = ℕ} (Keeps (was_found past) tells disk' new.store) (Past.disk home past) (Past.trip past) (commit_line tid sealed).calls (Err (Stopped kept))
       → is_up new.store.standing ≡ false → new ≡ record old { store = new.store }
-      → step ≡ record { answer = Say.Stopped kept; sends = None }
-      → Answers stands tells step new disk' home past (unless_tripped home past (of_commit home past tid))
-  commit_stopped old new step disk disk' home past kept k up local ends down is says =
+      → step ≡ record { answer = Say.Stopped kept; sends = None } → Called {A = ℕ} 0 (Past.trip past) (commit_line tid sealed).calls disk disk' (Err (Stopped kept))
+      → Answers stands tells 0 disk step new disk' home past (unless_tripped home past (of_commit home past tid))
+  commit_stopped old new step disk disk' home past kept k up local ends down is says called =
       sealed_stopped stands tells tid sealed old new step disk disk' home past (of_commit home past tid) (commit_line tid sealed) kept k (commit_is tid sealed home past k.seals)
-      (appends old disk home past k up local) ends down is says
+      (appends old disk home past k up local) ends down is says refl called
 
   pub commit_failed : (old new : SiteCore E) (disk disk' : Seen) (home : Home) (past : SitePast) (k : StandsSealing stands tells tid sealed old disk home past)
       → old.store.standing ≡ Up → was_global tid.tx past ≡ false
       → Ends {A = ℕ} (Keeps (was_found past) tells disk' new.store) (Past.disk home past) (Past.trip past) (commit_line tid sealed).calls (Err Failed)
-      → is_up new.store.standing ≡ false → new ≡ record old { store = new.store }
-      → Breaks stands tells Err_is.Disk new disk' home past (Ev.Commit tid)
-  commit_failed old new disk disk' home past k up local ends down is =
+      → is_up new.store.standing ≡ false → new ≡ record old { store = new.store } → HasCalledAtMost 2 disk disk'
+      → Breaks stands tells (0 + calls_for home past (Ev.Commit tid)) disk Err_is.Disk new disk' home past (Ev.Commit tid)
+  commit_failed old new disk disk' home past k up local ends down is called =
       let here = up_is stands (record old { engine = k.engine }) home past k.stood.holds.memory up in
       let goes : GoesOn home past (Ev.Commit tid) (commit_line tid sealed) = λ calls cut.
       commit_up home (trip_line calls cut ∷ past) tid here ∙ ap (unless_tripped home (trip_line calls cut ∷ past)) (commit_goes tid home past calls cut ∙ commit_is tid sealed home past k.seals) in
       sealed_failed stands tells tid sealed old new disk disk' home past (Ev.Commit tid) (commit_line tid sealed) k up goes (appends old disk home past k up local) ends down is
+      (commit_calls home past tid (commit_line tid sealed) (commit_is tid sealed home past k.seals)) called
 
 -- a refusal is the rule's for the live run
 pub refused_by : (book : Book) (home : Home) (past : SitePast) (tid : Tid) (why : Why) (l : HasLive book home past tid) → IsRight (epoch_start home past) (Refuses tid why ∷ engine_lines past) → stop_of home past l.run ≡ Some why

@@ -1,5 +1,5 @@
 -- A decision on a subtransaction: what is written of one in doubt, and what the core stands for behind it.
-use Rattle.std.proofs.Common.{◌≡◌, ℕ, ◌||◌, Bool, true, false, not, cond, is_some, Option, Some, None, Err, List, [], ◌∷◌, ◌++◌, inr, length, take, refl, sym, ap, ◌∙◌, subst}
+use Rattle.std.proofs.Common.{◌≡◌, ℕ, ◌+◌, ◌||◌, Bool, true, false, not, cond, is_some, Option, Some, None, Err, List, [], ◌∷◌, ◌++◌, inr, length, take, refl, sym, ap, ◌∙◌, subst}
 use Rattle.std.specs.Prelude.{option_to_list}
 use Rattle.std.proofs.lemmas.Bool.{cond-true, cond-false}
 use Rattle.mdb_base.specs.declared.names.Tid.{Tid}
@@ -28,13 +28,15 @@ use Rattle.fed_rules.specs.Site.{ack_of, ended_calls, of_decide, of_give, settle
 use Rattle.fed_rules.specs.SitePast.{SiteHappening, SitePast, decides_on, ends, engine_lines, epoch, epoch_start, is_closed, live, live_one}
 use Rattle.fed_rules.specs.SitePast as Past
 use Rattle.fed_rules.specs.SiteRecords.{Held, Home, doubt_of, epoch_of, local_of, site_frame}
-use Rattle.journal_disk.specs.Disk.{Seen}
+use Rattle.journal_disk.specs.Disk.{HasCalled, HasCalledAtMost, Seen}
+use Rattle.journal_rules.proofs.ForCallers.{forced_or_not}
 use Rattle.journal_sums.specs.Starts.{doubt_held}
 use Rattle.prepared_state.specs.Book.{doubt_about, others}
 use Rattle.actor_store.specs.declared.errors.StepErr.TheVariants as Err_is
 use Rattle.actor_store.specs.declared.store.Break.TheVariants.{Stopped, Failed}
 use Rattle.actor_store.specs.declared.store.Standing.TheVariants.{Up}
-use Rattle.actor_store.specs.Store.{Passes, is_up}
+use Rattle.actor_store.specs.Store.{Called, Passes, is_up}
+use Rattle.actor_store.proofs.ForCallers.{called_stopped}
 use Rattle.site_book.specs.declared.progress.Progress.{Progress}
 use Rattle.site_book.specs.declared.progress.Progress.TheVariants as Is
 use Rattle.site_book.specs.Book.{Book, begun_in, closed_part, closes, committed_in, enters, is_closed_in, live_in, live_part, progress_of}
@@ -47,13 +49,14 @@ use Rattle.site_core.specs.declared.site.SiteCore.{SiteCore}
 use Rattle.site_core.specs.Made.{IsGoingOn, is_of_global, was_global, was_found}
 use Rattle.site_core.specs.Notes.{Notes, NotesPast}
 use Rattle.site_core.specs.Order.{IsInOrder}
-use Rattle.site_core.specs.Stands.{Adds, Answers, Breaks, Holds, IsOfKind, IsUp, Stands}
+use Rattle.site_core.specs.Stands.{Adds, Answers, Breaks, Holds, IsOfKind, IsUp, Stands, calls_for}
 use Rattle.site_core.specs.Store.{Ends, Keeps}
 use Rattle.site_core.proofs.InquiryLaws.{none_doubted}
 use Rattle.site_core.proofs.MadeLaws.{lawful}
 use Rattle.site_core.proofs.NotesLaws.{IsKnown, committed_closes, notes_change, order_changed, order_closes}
 use Rattle.site_core.proofs.OnceLaws.{AppendsOnce, once_stopped}
-use Rattle.site_core.proofs.OperationLaws.{give_up_line}
+use Rattle.site_core.proofs.CalledLaws.{give_calls}
+use Rattle.site_core.proofs.OperationLaws.{give_decide, give_up_line}
 use Rattle.site_core.proofs.RememberLaws.{IsPlain, answers_as, carries_line, carries_stop, is_up_at, kind_at, more_lines, passes_is, remembers_line, same_start, stop_line, trips_is, up_is}
 use Rattle.site_core.proofs.StopLaws.{GoesOn, breaks_up, trip_line}
 use Rattle.site_core.proofs.UpLaws.{up_quiet_disk}
@@ -375,15 +378,17 @@ module _ {E : Type 0} (stands : E → Lines.Start → List EngineLine → Type 0
         × Keeps (was_found past) tells disk' new.store (after_calls site_frame (Past.disk home past) (written_calls old.protocol tid decision)) (used (length (written_calls old.protocol tid decision)) (Past.trip past))
         → new.store.standing ≡ Up → mid ≡ record old { store = mid.store } → new ≡ record mid { engine = new.engine; book = closes tid mid.book; doubts = new.doubts }
         → new.doubts.doubts ≡ others tid mid.doubts.doubts → stands new.engine (epoch_start home past) (settling_line tid decision ∷ engine_lines past)
-        → step.answer ≡ Say.Settles tid decision → option_to_list step.sends ≡ ack_of home tid decision
-        → Answers stands tells step new disk' home past (unless_tripped home past (of_decide home past tid decision))
-    settle_done old mid new step disk disk' home past tid decision held k up doubt done now rest ended listed engine answer sends =
+        → step.answer ≡ Say.Settles tid decision → option_to_list step.sends ≡ ack_of home tid decision → HasCalled (0 + length (written_calls old.protocol tid decision)) disk disk'
+        → Answers stands tells 0 disk step new disk' home past (unless_tripped home past (of_decide home past tid decision))
+    settle_done old mid new step disk disk' home past tid decision held k up doubt done now rest ended listed engine answer sends called =
         let is : new ≡ record old { engine = new.engine; book = closes tid old.book; doubts = new.doubts; store = mid.store } =
         ended ∙ ap (λ (c : SiteCore E). let after : SiteCore E = record c { engine = new.engine; book = closes tid c.book; doubts = new.doubts } in after) rest in
         let y = settle_line home tid decision in
         let m = k.holds.memory in
         let C : List (Call SiteRecord) → Type 0 = λ cs. Passes (Past.trip past) (length cs) × Keeps (was_found past) tells disk' new.store (after_calls site_frame (Past.disk home past) cs) (used (length cs) (Past.trip past)) in
         let ends = subst C (written_is old.protocol home tid decision m.protocol) done in
+        let H : List (Call SiteRecord) → Type 0 = λ cs. HasCalled (0 + length cs) disk disk' in
+        let L : ℕ → Type 0 = λ n. HasCalled (0 + n) disk disk' in
         let u = is_up_at stands old home past m up in
         let p : IsPlain y = record { goes = refl; stays = refl; sets = refl } in
         let written = settled_records home past tid decision in
@@ -392,28 +397,30 @@ module _ {E : Type 0} (stands : E → Lines.Start → List EngineLine → Type 0
         let notes = ended_notes past y tid decision refl refl old.book home decision u.notes refl (λ tx. ap (λ (rs : List SiteRecord). local_of rs tx) written) in
         let doubts : (t : Tid) → doubt_about t new.doubts.doubts ≡ map_some doubt_held (doubt_of (Past.records home (y ∷ past)) t) = λ t.
         ap (doubt_about t) (listed ∙ ap (λ (c : SiteCore E). others tid c.doubts.doubts) rest) ∙ doubts_settled tid t old.doubts.doubts (Past.records home past) decision (u.doubts t) ∙ sym (ap (λ (rs : List SiteRecord). map_some doubt_held (doubt_of rs t)) written) in
-        answers_as stands tells step new disk' home past (unless_tripped home past (of_decide home past tid decision)) y (ap (unless_tripped home past) (decide_settles home past tid decision held doubt) ∙ passes_is home past y ends.0)
+        answers_as stands tells 0 disk step new disk' home past (unless_tripped home past (of_decide home past tid decision)) y (ap (unless_tripped home past) (decide_settles home past tid decision held doubt) ∙ passes_is home past y ends.0)
         (record {
           answer = answer;
           sends = sends;
           carries = carries_line stands tells old new disk' home past y m up ends.1 now p
               (up_doubts new home past y p engine (subst N (sym book) notes) doubts (ap (λ (c : SiteCore E). c.epoch) is ∙ u.epoch ∙ sym (ap epoch_of written)))
               (λ tx. ap (λ (b : Book). begun_in b tx) book ∙ m.begun tx) (ap (λ (c : SiteCore E). c.protocol) is) (ended_once (Past.disk home past) tid decision (forces home.protocol decision));
+          called = subst L (sym (forced_or_not (Rec.Ended tid decision) (forces home.protocol decision))) (subst H (written_is old.protocol home tid decision m.protocol) called);
         })
 
     pub settle_stopped : (old new : SiteCore E) (step : SiteStep) (disk disk' : Seen) (home : Home) (past : SitePast) (tid : Tid) (decision : Decision) (held : Held) (kept : ℕ) → Stands stands tells old disk home past
         → old.store.standing ≡ Up → doubt_of (Past.records home past) tid ≡ Some held
         → Ends {A = ℕ} (Keeps (was_found past) tells disk' new.store) (Past.disk home past) (Past.trip past) (written_calls old.protocol tid decision) (Err (Stopped kept))
         → is_up new.store.standing ≡ false → new ≡ record old { store = new.store } → step ≡ record { answer = Say.Stopped kept; sends = None }
-        → Answers stands tells step new disk' home past (unless_tripped home past (of_decide home past tid decision))
-    settle_stopped old new step disk disk' home past tid decision held kept k up doubt stop down is says =
+        → Called {A = ℕ} 0 (Past.trip past) (written_calls old.protocol tid decision) disk disk' (Err (Stopped kept))
+        → Answers stands tells 0 disk step new disk' home past (unless_tripped home past (of_decide home past tid decision))
+    settle_stopped old new step disk disk' home past tid decision held kept k up doubt stop down is says called =
         let y = settle_line home tid decision in
         let m = k.holds.memory in
         let C : List (Call SiteRecord) → Type 0 = λ cs. Ends {A = ℕ} (Keeps (was_found past) tells disk' new.store) (Past.disk home past) (Past.trip past) cs (Err (Stopped kept)) in
         let (set, trip, within, keeps, count) = subst C (written_is old.protocol home tid decision m.protocol) stop in
         let calls : List (Call SiteRecord) = take set.calls y.calls ++ Stops set.cut ∷ [] in
         let K : E → Type 0 = λ e. IsOfKind stands e home.engine in
-        answers_as stands tells step new disk' home past (unless_tripped home past (of_decide home past tid decision)) (stop_line home past y.event calls)
+        answers_as stands tells 0 disk step new disk' home past (unless_tripped home past (of_decide home past tid decision)) (stop_line home past y.event calls)
         (ap (unless_tripped home past) (decide_settles home past tid decision held doubt) ∙ trips_is home past y set trip within)
         (record {
           answer = ap (λ (s : SiteStep). s.answer) says ∙ ap (λ (n : ℕ). Say.Stopped n) count;
@@ -421,13 +428,15 @@ module _ {E : Type 0} (stands : E → Lines.Start → List EngineLine → Type 0
           carries = carries_stop stands tells new disk' home past y.event calls keeps down (subst K (sym (ap (λ (c : SiteCore E). c.engine) is)) (kind_at stands old home past m))
               (λ tx. ap (λ (c : SiteCore E). begun_in c.book tx) is ∙ m.begun tx) (ap (λ (c : SiteCore E). c.protocol) is ∙ m.protocol)
               (once_stopped (Past.disk home past) set.calls set.cut y.calls (ended_once (Past.disk home past) tid decision (forces home.protocol decision)) m.once);
+          called = called_stopped 0 (Past.trip past) set y.calls disk disk' kept (forced_or_not (Rec.Ended tid decision) (forces home.protocol decision)) trip within called;
         })
 
     pub settle_failed : (old new : SiteCore E) (disk disk' : Seen) (home : Home) (past : SitePast) (tid : Tid) (decision : Decision) (held : Held) → Stands stands tells old disk home past
         → old.store.standing ≡ Up → doubt_of (Past.records home past) tid ≡ Some held
         → Ends {A = ℕ} (Keeps (was_found past) tells disk' new.store) (Past.disk home past) (Past.trip past) (written_calls old.protocol tid decision) (Err Failed)
-        → is_up new.store.standing ≡ false → new ≡ record old { store = new.store } → Breaks stands tells Err_is.Disk new disk' home past (Ev.Give (To.Decide tid decision))
-    settle_failed old new disk disk' home past tid decision held k up doubt failed down is =
+        → is_up new.store.standing ≡ false → new ≡ record old { store = new.store } → HasCalledAtMost (0 + length (written_calls old.protocol tid decision)) disk disk'
+        → Breaks stands tells (0 + calls_for home past (Ev.Give (To.Decide tid decision))) disk Err_is.Disk new disk' home past (Ev.Give (To.Decide tid decision))
+    settle_failed old new disk disk' home past tid decision held k up doubt failed down is called =
         let y = settle_line home tid decision in
         let m = k.holds.memory in
         let C : List (Call SiteRecord) → Type 0 = λ cs. Ends {A = ℕ} (Keeps (was_found past) tells disk' new.store) (Past.disk home past) (Past.trip past) cs (Err Failed) in
@@ -436,6 +445,9 @@ module _ {E : Type 0} (stands : E → Lines.Start → List EngineLine → Type 0
         let K : E → Type 0 = λ e. IsOfKind stands e home.engine in
         let goes : GoesOn home past (Ev.Give (To.Decide tid decision)) y = λ calls cut.
         decide_up home (trip_line calls cut ∷ past) tid decision here ∙ ap (unless_tripped home (trip_line calls cut ∷ past)) (decide_goes home past tid decision calls cut ∙ decide_settles home past tid decision held doubt) in
-        breaks_up stands tells new disk' home past (Ev.Give (To.Decide tid decision)) y here goes ends down (subst K (sym (ap (λ (c : SiteCore E). c.engine) is)) (kind_at stands old home past m))
+        let event : SiteEvent = Ev.Give (To.Decide tid decision) in
+        let M : List (Call SiteRecord) → Type 0 = λ cs. HasCalledAtMost (0 + length cs) disk disk' in
+        let line = give_calls home past (To.Decide tid decision) y (give_decide home past tid decision ∙ decide_settles home past tid decision held doubt) in
+        breaks_up stands tells (0 + calls_for home past event) disk new disk' home past event y here goes ends down (subst K (sym (ap (λ (c : SiteCore E). c.engine) is)) (kind_at stands old home past m))
         (λ tx. ap (λ (c : SiteCore E). begun_in c.book tx) is ∙ m.begun tx) (ap (λ (c : SiteCore E). c.protocol) is ∙ m.protocol)
-        (ended_once (Past.disk home past) tid decision (forces home.protocol decision)) m.once
+        (ended_once (Past.disk home past) tid decision (forces home.protocol decision)) m.once (subst M (written_is old.protocol home tid decision m.protocol ∙ sym line) called)

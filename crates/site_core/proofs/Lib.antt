@@ -1,6 +1,7 @@
 pub mod ForCallers
 mod BackLaws
 mod BegunLaws
+mod CalledLaws
 mod CheckLaws
 mod CommitLaws
 mod DecideLaws

@@ -28,6 +28,7 @@ use Rattle.site_core.specs.Stands.{Adds, Answers, Carries, IsIn, IsOfKind, IsSto
 use Rattle.site_core.specs.Recovered.{LocalsOnce}
 use Rattle.site_core.specs.Made.{opens, was_found}
 use Rattle.site_core.specs.Store.{Keeps, Store}
+use Rattle.site_core.proofs.CalledLaws.{called_quiet}
 use Rattle.site_core.proofs.OnceLaws.{AppendsOnce, once_calls}
 
 -- a store has the records that stand on its disk
@@ -238,19 +239,19 @@ module _ {E : Type 0} (stands : E → Lines.Start → List EngineLine → Type 0
     trip_left core home past m = let P : Option Trip → Type 0 = λ t. Passes t 0 in subst P m.trip (passes_none core.store.trip m.armed)
 
     -- an answer to a line that is another one by the rules
-    pub answers_as : (step : SiteStep) (core : SiteCore E) (disk : Seen) (home : Home) (past : SitePast) (x y : SiteHappening) → x ≡ y
-        → Answers stands tells step core disk home past y → Answers stands tells step core disk home past x
-    answers_as step core disk home past x y e a = let P : SiteHappening → Type 0 = Answers stands tells step core disk home past in subst P (sym e) a
+    pub answers_as : (beside : ℕ) (before : Seen) (step : SiteStep) (core : SiteCore E) (disk : Seen) (home : Home) (past : SitePast) (x y : SiteHappening) → x ≡ y
+        → Answers stands tells beside before step core disk home past y → Answers stands tells beside before step core disk home past x
+    answers_as beside before step core disk home past x y e a = let P : SiteHappening → Type 0 = Answers stands tells beside before step core disk home past in subst P (sym e) a
 
     -- an answer without disk calls
     pub answers_quiet : (step : SiteStep) (old new : SiteCore E) (disk : Seen) (home : Home) (past : SitePast) (x y : SiteHappening)
         → Stands stands tells old disk home past → new.store ≡ old.store → y.calls ≡ [] → x ≡ unless_tripped home past y → Adds stands step new home past y
-        → Answers stands tells step new disk home past x
+        → Answers stands tells 0 disk step new disk home past x
     answers_quiet step old new disk home past x y k store none is a =
         let P : ℕ → Type 0 = λ n. Passes (Past.trip past) n in
         let passes : Passes (Past.trip past) (length y.calls) = subst P (sym (ap length none)) (trip_left old home past k.holds.memory) in
-        answers_as step new disk home past x y (is ∙ passes_is home past y passes)
-        (record { answer = a.answer; sends = a.sends; carries = carries_quiet old new disk home past y k.stored store none a.memory })
+        answers_as 0 disk step new disk home past x y (is ∙ passes_is home past y passes)
+        (record { answer = a.answer; sends = a.sends; carries = carries_quiet old new disk home past y k.stored store none a.memory; called = called_quiet y.calls disk disk none refl })
 
   -- a line that is another one by the rules
   pub adds_as : (step : SiteStep) (core : SiteCore E) (home : Home) (past : SitePast) (x y : SiteHappening) → x ≡ y → Adds stands step core home past y → Adds stands step core home past x

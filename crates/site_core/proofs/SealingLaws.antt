@@ -1,6 +1,6 @@
 -- A core with a sealed attempt whose record is forced: what it stands for where the disk calls are stopped or fail, and where the sealing is
 -- taken back.
-use Rattle.std.proofs.Common.{◌≡◌, ℕ, Bool, false, Some, None, Err, List, [], ◌∷◌, ◌++◌, take, sym, ap, ◌∙◌, subst}
+use Rattle.std.proofs.Common.{◌≡◌, ℕ, ◌+◌, Bool, false, Some, None, Err, List, [], ◌∷◌, ◌++◌, length, take, sym, ap, ◌∙◌, subst}
 use Rattle.std.specs.Prelude.{option_to_list}
 use Rattle.mdb_base.specs.declared.names.Tid.{Tid}
 use Rattle.fed_rules.specs.declared.answers.Answer.TheVariants as Say
@@ -11,21 +11,23 @@ use Rattle.fed_rules.specs.declared.runs.Sealed.{Sealed}
 use Rattle.fed_rules.specs.Disk.{Call, Stops}
 use Rattle.fed_rules.specs.Runs as Lines
 use Rattle.fed_rules.specs.Runs.{EngineLine, run_at}
-use Rattle.fed_rules.specs.Site.{unless_tripped}
+use Rattle.fed_rules.specs.Site.{answered, unless_tripped}
 use Rattle.fed_rules.specs.SitePast.{SiteHappening, SitePast, engine_lines, epoch_start}
 use Rattle.fed_rules.specs.SitePast as Past
 use Rattle.fed_rules.specs.SiteRecords.{Home}
-use Rattle.journal_disk.specs.Disk.{Seen}
+use Rattle.journal_disk.specs.Disk.{HasCalledAtMost, Seen}
+use Rattle.journal_rules.specs.Calls.{can_fail}
 use Rattle.actor_store.specs.declared.errors.StepErr.TheVariants as Err_is
 use Rattle.actor_store.specs.declared.store.Break.TheVariants.{Stopped, Failed}
 use Rattle.actor_store.specs.declared.store.Standing.{Standing}
 use Rattle.actor_store.specs.declared.store.Standing.TheVariants.{Up}
-use Rattle.actor_store.specs.Store.{is_up}
+use Rattle.actor_store.specs.Store.{Called, is_up}
+use Rattle.actor_store.proofs.ForCallers.{called_stopped}
 use Rattle.site_book.specs.Book.{begun_in}
 use Rattle.site_history.proofs.ForCallers.{live_is}
 use Rattle.site_core.specs.declared.site.SiteCore.{SiteCore}
 use Rattle.site_core.specs.Sealing.{StandsSealing}
-use Rattle.site_core.specs.Stands.{Answers, Breaks, Carries, IsIn, IsOfKind, IsUp}
+use Rattle.site_core.specs.Stands.{Answers, Breaks, Carries, IsIn, IsOfKind, IsUp, calls_for}
 use Rattle.site_core.specs.Made.{was_found}
 use Rattle.site_core.specs.Store.{Ends, Keeps}
 use Rattle.site_core.proofs.OnceLaws.{AppendsOnce, once_stopped}
@@ -49,33 +51,35 @@ module _ {E : Type 0} (stands : E → Lines.Start → List EngineLine → Type 0
       → x ≡ y → AppendsOnce (Past.disk home past) y.calls
       → Ends {A = ℕ} (Keeps (was_found past) tells disk' new.store) (Past.disk home past) (Past.trip past) y.calls (Err (Stopped kept))
       → is_up new.store.standing ≡ false → new ≡ record old { store = new.store }
-      → step ≡ record { answer = Say.Stopped kept; sends = None }
-      → Answers stands tells step new disk' home past (unless_tripped home past x)
-  sealed_stopped old new step disk disk' home past x y kept k line appends (set, trip, within, keeps, count) down is says =
+      → step ≡ record { answer = Say.Stopped kept; sends = None } → can_fail y.calls ≡ length y.calls → Called {A = ℕ} 0 (Past.trip past) y.calls disk disk' (Err (Stopped kept))
+      → Answers stands tells 0 disk step new disk' home past (unless_tripped home past x)
+  sealed_stopped old new step disk disk' home past x y kept k line appends (set, trip, within, keeps, count) down is says all called =
       let m = k.stood.holds.memory in
       let calls : List (Call SiteRecord) = take set.calls y.calls ++ Stops set.cut ∷ [] in
       let K : E → Type 0 = λ e. IsOfKind stands e home.engine in
-      answers_as stands tells step new disk' home past (unless_tripped home past x) (stop_line home past y.event calls) (ap (unless_tripped home past) line ∙ trips_is home past y set trip within)
+      answers_as stands tells 0 disk step new disk' home past (unless_tripped home past x) (stop_line home past y.event calls) (ap (unless_tripped home past) line ∙ trips_is home past y set trip within)
       (record {
         answer = ap (λ (s : SiteStep). s.answer) says ∙ ap (λ (n : ℕ). Say.Stopped n) count;
         sends = ap (λ (s : SiteStep). option_to_list s.sends) says;
         carries = carries_stop stands tells new disk' home past y.event calls keeps down (subst K (sym (ap (λ (c : SiteCore E). c.engine) is)) (kind old disk home past k))
             (λ tx. ap (λ (c : SiteCore E). begun_in c.book tx) is ∙ m.begun tx) (ap (λ (c : SiteCore E). c.protocol) is ∙ m.protocol)
             (once_stopped (Past.disk home past) set.calls set.cut y.calls appends m.once);
+        called = called_stopped 0 (Past.trip past) set y.calls disk disk' kept all trip within called;
       })
 
   -- one of them fails
   pub sealed_failed : (old new : SiteCore E) (disk disk' : Seen) (home : Home) (past : SitePast) (event : SiteEvent) (y : SiteHappening) (k : StandsSealing stands tells tid sealed old disk home past)
       → old.store.standing ≡ Up → GoesOn home past event y → AppendsOnce (Past.disk home past) y.calls
       → Ends {A = ℕ} (Keeps (was_found past) tells disk' new.store) (Past.disk home past) (Past.trip past) y.calls (Err Failed)
-      → is_up new.store.standing ≡ false → new ≡ record old { store = new.store }
-      → Breaks stands tells Err_is.Disk new disk' home past event
-  sealed_failed old new disk disk' home past event y k up goes appends ends down is =
+      → is_up new.store.standing ≡ false → new ≡ record old { store = new.store } → (answered home past event).calls ≡ y.calls → HasCalledAtMost (0 + length y.calls) disk disk'
+      → Breaks stands tells (0 + calls_for home past event) disk Err_is.Disk new disk' home past event
+  sealed_failed old new disk disk' home past event y k up goes appends ends down is line called =
       let m = k.stood.holds.memory in
       let here = up_is stands (record old { engine = k.engine }) home past m up in
       let K : E → Type 0 = λ e. IsOfKind stands e home.engine in
-      breaks_up stands tells new disk' home past event y here goes ends down (subst K (sym (ap (λ (c : SiteCore E). c.engine) is)) (kind old disk home past k))
-      (λ tx. ap (λ (c : SiteCore E). begun_in c.book tx) is ∙ m.begun tx) (ap (λ (c : SiteCore E). c.protocol) is ∙ m.protocol) appends m.once
+      let M : List (Call SiteRecord) → Type 0 = λ calls. HasCalledAtMost (0 + length calls) disk disk' in
+      breaks_up stands tells (0 + calls_for home past event) disk new disk' home past event y here goes ends down (subst K (sym (ap (λ (c : SiteCore E). c.engine) is)) (kind old disk home past k))
+      (λ tx. ap (λ (c : SiteCore E). begun_in c.book tx) is ∙ m.begun tx) (ap (λ (c : SiteCore E). c.protocol) is ∙ m.protocol) appends m.once (subst M (sym line) called)
 
   -- where there is no memory for the record, the sealing was taken back
   pub unsealed_stands : (old new : SiteCore E) (disk disk' : Seen) (home : Home) (past : SitePast) (k : StandsSealing stands tells tid sealed old disk home past)

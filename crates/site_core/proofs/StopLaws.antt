@@ -19,7 +19,8 @@ use Rattle.fed_rules.specs.Site.{site_line, unless_tripped}
 use Rattle.fed_rules.specs.SitePast.{SiteHappening, SitePast, attempts_of, begins_tx, engine_lines, epoch_start, is_closed, trip_of}
 use Rattle.fed_rules.specs.SitePast as Past
 use Rattle.fed_rules.specs.SiteRecords.{Home, local_of, site_frame, start_of}
-use Rattle.journal_disk.specs.Disk.{Seen}
+use Rattle.journal_disk.specs.Disk.{HasCalledAtMost, Seen}
+use Rattle.journal_disk.proofs.ForCallers.{no_call}
 use Rattle.actor_store.specs.declared.errors.StepErr.TheVariants as Err_is
 use Rattle.actor_store.specs.declared.store.Break.TheVariants.{Failed}
 use Rattle.actor_store.specs.declared.store.SetTrip.{SetTrip}
@@ -33,6 +34,7 @@ use Rattle.site_core.specs.Stands.{Answers, Before, Breaks, Carries, IsIn, IsOfK
 use Rattle.site_core.specs.Recovered.{LocalsOnce}
 use Rattle.site_core.specs.Made.{opens, was_found}
 use Rattle.site_core.specs.Store.{Ends, Keeps, Store}
+use Rattle.site_core.proofs.CalledLaws.{called_quiet}
 use Rattle.site_core.proofs.NotesLaws.{notes_same}
 use Rattle.site_core.proofs.OnceLaws.{AppendsOnce, once_stopped}
 use Rattle.site_core.proofs.UpLaws.{closed_same}
@@ -119,45 +121,45 @@ stop_same rules cut synced within =
 
 module _ {E : Type 0} (stands : E → Lines.Start → List EngineLine → Type 0) (tells : Bool) where
   -- a past that is another one by the rules
-  breaks_as : (core : SiteCore E) (disk : Seen) (home : Home) (past : SitePast) (event : SiteEvent) (at : StopAt) (there : SitePast) → stopped_past home past event at ≡ there
-      → Carries stands tells core disk home there → is_down there ≡ true → Breaks stands tells Err_is.Disk core disk home past event
-  breaks_as core disk home past event at there is c down =
+  breaks_as : (most : ℕ) (before : Seen) (core : SiteCore E) (disk : Seen) (home : Home) (past : SitePast) (event : SiteEvent) (at : StopAt) (there : SitePast) → stopped_past home past event at ≡ there
+      → Carries stands tells core disk home there → is_down there ≡ true → HasCalledAtMost most before disk → Breaks stands tells most before Err_is.Disk core disk home past event
+  breaks_as most before core disk home past event at there is c down called =
       let P : SitePast → Type 0 = Carries stands tells core disk home in
-      (at, subst P (sym is) c, ap (λ (p : SitePast). is_down p) is ∙ down)
+      (at, subst P (sym is) c, ap (λ (p : SitePast). is_down p) is ∙ down, called)
 
   -- what a failed call leaves where it comes behind some calls
-  within_breaks : (core : SiteCore E) (disk : Seen) (home : Home) (past : SitePast) (event : SiteEvent) (x : SiteHappening) (n m cut : ℕ)
+  within_breaks : (most : ℕ) (before : Seen) (core : SiteCore E) (disk : Seen) (home : Home) (past : SitePast) (event : SiteEvent) (x : SiteHappening) (n m cut : ℕ)
       → GoesOn home past event x → 1 ≤ m → m ≤ length x.calls → take n x.calls ≡ take m x.calls
       → Keeps (was_found past) tells disk core.store (after_calls site_frame (Past.disk home past) (take n x.calls ++ Stops cut ∷ [])) None → is_up core.store.standing ≡ false
       → IsOfKind stands core.engine home.engine → ((tx : Tx) → begun_in core.book tx ≡ attempts_of past tx) → core.protocol ≡ home.protocol
-      → AppendsOnce (Past.disk home past) x.calls → LocalsOnce (Past.records home past) → Breaks stands tells Err_is.Disk core disk home past event
-  within_breaks core disk home past event x n m cut goes some few same kept down engine begun protocol fits once =
+      → AppendsOnce (Past.disk home past) x.calls → LocalsOnce (Past.records home past) → HasCalledAtMost most before disk → Breaks stands tells most before Err_is.Disk core disk home past event
+  within_breaks most before core disk home past event x n m cut goes some few same kept down engine begun protocol fits once called =
       let K : List (Call SiteRecord) → Type 0 = λ cs. Keeps (was_found past) tells disk core.store (after_calls site_frame (Past.disk home past) (cs ++ Stops cut ∷ [])) None in
-      breaks_as core disk home past event (Within m cut) _ (within_is home past event x m cut goes some few)
-      (carries_stop stands tells core disk home (trip_line m cut ∷ past) x.event (take m x.calls ++ Stops cut ∷ []) (subst K same kept) down engine begun protocol (once_stopped (Past.disk home past) m cut x.calls fits once)) refl
+      breaks_as most before core disk home past event (Within m cut) _ (within_is home past event x m cut goes some few)
+      (carries_stop stands tells core disk home (trip_line m cut ∷ past) x.event (take m x.calls ++ Stops cut ∷ []) (subst K same kept) down engine begun protocol (once_stopped (Past.disk home past) m cut x.calls fits once)) refl called
 
   -- a disk call of an event of a site that is up fails
-  pub breaks_up : (core : SiteCore E) (disk : Seen) (home : Home) (past : SitePast) (event : SiteEvent) (x : SiteHappening)
+  pub breaks_up : (most : ℕ) (before : Seen) (core : SiteCore E) (disk : Seen) (home : Home) (past : SitePast) (event : SiteEvent) (x : SiteHappening)
       → is_down past ≡ false → GoesOn home past event x → Ends {A = ℕ} (Keeps (was_found past) tells disk core.store) (Past.disk home past) (Past.trip past) x.calls (Err Failed)
       → is_up core.store.standing ≡ false → IsOfKind stands core.engine home.engine → ((tx : Tx) → begun_in core.book tx ≡ attempts_of past tx) → core.protocol ≡ home.protocol
-      → AppendsOnce (Past.disk home past) x.calls → LocalsOnce (Past.records home past) → Breaks stands tells Err_is.Disk core disk home past event
-  breaks_up core disk home past event x up goes (n, cut, kept) down engine begun protocol fits once = from (first_calls n x.calls) where
-    from : (take n x.calls ≡ []) ⊎ ((m : ℕ) × (1 ≤ m) × (m ≤ length x.calls) × (take n x.calls ≡ take m x.calls)) → Breaks stands tells Err_is.Disk core disk home past event
+      → AppendsOnce (Past.disk home past) x.calls → LocalsOnce (Past.records home past) → HasCalledAtMost most before disk → Breaks stands tells most before Err_is.Disk core disk home past event
+  breaks_up most before core disk home past event x up goes (n, cut, kept) down engine begun protocol fits once called = from (first_calls n x.calls) where
+    from : (take n x.calls ≡ []) ⊎ ((m : ℕ) × (1 ≤ m) × (m ≤ length x.calls) × (take n x.calls ≡ take m x.calls)) → Breaks stands tells most before Err_is.Disk core disk home past event
     from (inl none) =
         let K : List (Call SiteRecord) → Type 0 = λ cs. Keeps (was_found past) tells disk core.store (after_calls site_frame (Past.disk home past) (cs ++ Stops cut ∷ [])) None in
-        breaks_as core disk home past event (Before cut) _ (before_up home past event cut up)
-        (carries_stop stands tells core disk home (trip_line 0 0 ∷ past) (Ev.Halt cut) (Stops cut ∷ []) (subst K none kept) down engine begun protocol (once_stopped (Past.disk home past) 0 cut [] tt once)) refl
-    from (inr (m, some, few, same)) = within_breaks core disk home past event x n m cut goes some few same kept down engine begun protocol fits once
+        breaks_as most before core disk home past event (Before cut) _ (before_up home past event cut up)
+        (carries_stop stands tells core disk home (trip_line 0 0 ∷ past) (Ev.Halt cut) (Stops cut ∷ []) (subst K none kept) down engine begun protocol (once_stopped (Past.disk home past) 0 cut [] tt once)) refl called
+    from (inr (m, some, few, same)) = within_breaks most before core disk home past event x n m cut goes some few same kept down engine begun protocol fits once called
 
   -- a site that is down stays so, with its disk as it was and no trip
-  pub breaks_down : (core : SiteCore E) (disk : Seen) (home : Home) (past : SitePast) (event : SiteEvent) → is_down past ≡ true
+  pub breaks_down : (most : ℕ) (before : Seen) (core : SiteCore E) (disk : Seen) (home : Home) (past : SitePast) (event : SiteEvent) → is_down past ≡ true
       → Keeps (was_found past) tells disk core.store (Past.disk home past) None → is_up core.store.standing ≡ false
       → IsOfKind stands core.engine home.engine → epoch_start home past ≡ start_of home (Past.records home past) → engine_lines past ≡ []
       → ((tx : Tx) → begun_in core.book tx ≡ attempts_of past tx) → core.protocol ≡ home.protocol
-      → LocalsOnce (Past.records home past) → Breaks stands tells Err_is.Disk core disk home past event
-  breaks_down core disk home past event down kept still engine start lines begun protocol once =
+      → LocalsOnce (Past.records home past) → HasCalledAtMost most before disk → Breaks stands tells most before Err_is.Disk core disk home past event
+  breaks_down most before core disk home past event down kept still engine start lines begun protocol once called =
       let there : SitePast = quiet (Ev.Halt 0) Say.Down ∷ trip_line 0 0 ∷ past in
-      breaks_as core disk home past event (Before 0) there (before_down home past event 0 down)
+      breaks_as most before core disk home past event (Before 0) there (before_down home past event 0 down)
       (record {
         memory = record {
           records = kept_records tells disk core.store _ _ kept;
@@ -170,44 +172,45 @@ module _ {E : Type 0} (stands : E → Lines.Start → List EngineLine → Type 0
           once = once;
         };
         stored = kept;
-      }) down where
+      }) down called where
         from : (standing : Standing) → is_up standing ≡ false → IsStopped stands core home (quiet (Ev.Halt 0) Say.Down ∷ trip_line 0 0 ∷ past) → IsIn stands core standing home (quiet (Ev.Halt 0) Say.Down ∷ trip_line 0 0 ∷ past)
         from Up e r = cc
         from Down e r = r
         from Failing e r = r
 
   -- a disk call of an event of a site that is down fails
-  pub breaks_start : (core : SiteCore E) (disk : Seen) (home : Home) (past : SitePast) (event : SiteEvent) (x : SiteHappening) → is_down past ≡ true → GoesOn home past event x
+  pub breaks_start : (most : ℕ) (before : Seen) (core : SiteCore E) (disk : Seen) (home : Home) (past : SitePast) (event : SiteEvent) (x : SiteHappening) → is_down past ≡ true → GoesOn home past event x
       → (Past.disk home past).synced ≡ (Past.disk home past).length → bytes_of site_frame (Past.records home past) ≤ (Past.disk home past).length
       → Ends {A = ℕ} (Keeps (was_found past) tells disk core.store) (Past.disk home past) (Past.trip past) x.calls (Err Failed)
       → is_up core.store.standing ≡ false → IsOfKind stands core.engine home.engine
       → epoch_start home past ≡ start_of home (Past.records home past) → engine_lines past ≡ []
       → ((tx : Tx) → begun_in core.book tx ≡ attempts_of past tx) → core.protocol ≡ home.protocol
-      → AppendsOnce (Past.disk home past) x.calls → LocalsOnce (Past.records home past) → Breaks stands tells Err_is.Disk core disk home past event
-  breaks_start core disk home past event x down goes synced within (n, cut, kept) still engine start lines begun protocol fits once = from (first_calls n x.calls) where
-    from : (take n x.calls ≡ []) ⊎ ((m : ℕ) × (1 ≤ m) × (m ≤ length x.calls) × (take n x.calls ≡ take m x.calls)) → Breaks stands tells Err_is.Disk core disk home past event
+      → AppendsOnce (Past.disk home past) x.calls → LocalsOnce (Past.records home past) → HasCalledAtMost most before disk → Breaks stands tells most before Err_is.Disk core disk home past event
+  breaks_start most before core disk home past event x down goes synced within (n, cut, kept) still engine start lines begun protocol fits once called = from (first_calls n x.calls) where
+    from : (take n x.calls ≡ []) ⊎ ((m : ℕ) × (1 ≤ m) × (m ≤ length x.calls) × (take n x.calls ≡ take m x.calls)) → Breaks stands tells most before Err_is.Disk core disk home past event
     from (inl none) =
         let K : List (Call SiteRecord) → Type 0 = λ cs. Keeps (was_found past) tells disk core.store (after_calls site_frame (Past.disk home past) (cs ++ Stops cut ∷ [])) None in
         let R : Disk SiteRecord → Type 0 = λ d. Keeps (was_found past) tells disk core.store d None in
-        breaks_down core disk home past event down (subst R (stop_same (Past.disk home past) cut synced within) (subst K none kept)) still engine start lines begun protocol once
-    from (inr (m, some, few, same)) = within_breaks core disk home past event x n m cut goes some few same kept still engine begun protocol fits once
+        breaks_down most before core disk home past event down (subst R (stop_same (Past.disk home past) cut synced within) (subst K none kept)) still engine start lines begun protocol once called
+    from (inr (m, some, few, same)) = within_breaks most before core disk home past event x n m cut goes some few same kept still engine begun protocol fits once called
 
   -- a halt
   pub halt_stops : (old new : SiteCore E) (step : SiteStep) (disk disk' : Seen) (home : Home) (past : SitePast) (cut kept : ℕ)
       → Stands stands tells old disk home past → old.store.standing ≡ Up
       → StopsWith site_frame (Keeps (was_found past) tells disk' new.store) (Past.disk home past) cut kept
       → new.store.standing ≡ Down → new.engine ≡ old.engine → new.book ≡ old.book → new.protocol ≡ old.protocol
-      → step ≡ record { answer = Say.Stopped kept; sends = None }
-      → Answers stands tells step new disk' home past (site_line home past (Ev.Halt cut))
-  halt_stops old new step disk disk' home past cut kept k up stopped_with down engine book protocol says =
+      → step ≡ record { answer = Say.Stopped kept; sends = None } → disk'.calls ≡ disk.calls
+      → Answers stands tells 0 disk step new disk' home past (site_line home past (Ev.Halt cut))
+  halt_stops old new step disk disk' home past cut kept k up stopped_with down engine book protocol says same =
       let m = k.holds.memory in
       let P : E → Type 0 = λ e. IsOfKind stands e home.engine in
-      answers_as stands tells step new disk' home past _ _ (halt_up home past cut (up_is stands old home past m up))
+      answers_as stands tells 0 disk step new disk' home past _ _ (halt_up home past cut (up_is stands old home past m up))
       (record {
         answer = ap (λ (s : SiteStep). s.answer) says ∙ ap (λ (n : ℕ). Say.Stopped n) stopped_with.1;
         sends = ap (λ (s : SiteStep). option_to_list s.sends) says;
         carries = carries_stop stands tells new disk' home past (Ev.Halt cut) (Stops cut ∷ []) stopped_with.0 (ap is_up down) (subst P (sym engine) (kind_at stands old home past m))
             (λ tx. ap (λ b. begun_in b tx) book ∙ m.begun tx) (protocol ∙ m.protocol) (once_stopped (Past.disk home past) 0 cut [] tt m.once);
+        called = no_call disk disk' same;
       })
 
   -- a site that is up, whatever trip is set
@@ -235,7 +238,7 @@ module _ {E : Type 0} (stands : E → Lines.Start → List EngineLine → Type 0
       → map_some trip_of_rules to ≡ set (trip_of event) (Past.trip past) → IsArmed to
       → (old.store.standing ≡ Up → IsUp stands old home past → IsUp stands new home (quiet event answer ∷ past))
       → step ≡ record { answer = answer; sends = None }
-      → Answers stands tells step new disk home past (quiet event answer)
+      → Answers stands tells 0 disk step new disk home past (quiet event answer)
   stands_still old new step disk home past event answer to k is goes stays none sets armed up says =
       let m = k.holds.memory in
       let in_force : set (trip_of event) (Past.trip past) ≡ Past.trip (quiet event answer ∷ past) = ap (set (trip_of event)) (sym (used_none (Past.trip past))) ∙ sym (cond-false _ _ _ goes) in
@@ -260,6 +263,7 @@ module _ {E : Type 0} (stands : E → Lines.Start → List EngineLine → Type 0
           };
           stored = from_later (opens (quiet event answer)) kept;
         };
+        called = called_quiet [] disk disk refl refl;
       } where
         quiet_test : (stops answer || comes_up answer) ≡ false
         quiet_test = rw (goes, stays) refl
@@ -277,28 +281,28 @@ module _ {E : Type 0} (stands : E → Lines.Start → List EngineLine → Type 0
   -- a trip that is set
   pub trip_sets : (old new : SiteCore E) (step : SiteStep) (disk : Seen) (home : Home) (past : SitePast) (calls cut : ℕ) → Stands stands tells old disk home past
       → new ≡ record old { store = record old.store { trip = trip_to calls cut } } → step ≡ record { answer = Say.Set; sends = None }
-      → Answers stands tells step new disk home past (site_line home past (Ev.Trip calls cut))
+      → Answers stands tells 0 disk step new disk home past (site_line home past (Ev.Trip calls cut))
   trip_sets old new step disk home past calls cut k is says =
-      answers_as stands tells step new disk home past _ _ (trip_is home past calls cut)
+      answers_as stands tells 0 disk step new disk home past _ _ (trip_is home past calls cut)
       (stands_still old new step disk home past (Ev.Trip calls cut) Say.Set (trip_to calls cut) k is refl refl (λ tx. refl) (trip_to-rules calls cut (Past.trip past)) (trip_to-armed calls cut)
       (λ e u. up_still old new home past (Ev.Trip calls cut) Say.Set u refl refl (λ t. refl) is) says)
 
   -- an event of a site that says something and changes nothing
   pub says_only : (core : SiteCore E) (step : SiteStep) (disk : Seen) (home : Home) (past : SitePast) (event : SiteEvent) (answer : Answer) (x : SiteHappening) → Stands stands tells core disk home past → x ≡ quiet event answer
       → stops answer ≡ false → comes_up answer ≡ false → ((tx : Tx) → begins_tx tx answer ≡ false) → trip_of event ≡ None → ((t : Tid) → Past.decides_on t event ≡ false) → step ≡ record { answer = answer; sends = None }
-      → Answers stands tells step core disk home past x
+      → Answers stands tells 0 disk step core disk home past x
   says_only core step disk home past event answer x k is goes stays none no_trip undecided says =
-      answers_as stands tells step core disk home past x (quiet event answer) is
+      answers_as stands tells 0 disk step core disk home past x (quiet event answer) is
       (stands_still core core step disk home past event answer core.store.trip k refl goes stays none (k.holds.memory.trip ∙ sym (ap (λ o. set o (Past.trip past)) no_trip)) k.holds.memory.armed
       (λ e u. up_still core core home past event answer u goes stays undecided refl) says)
 
   -- an event of a site that is down, which it doesn't hear
   pub says_down : (core : SiteCore E) (step : SiteStep) (disk : Seen) (home : Home) (past : SitePast) (event : SiteEvent) → Stands stands tells core disk home past → is_up core.store.standing ≡ false
       → ((calls cut : ℕ) → event ≡ Ev.Trip calls cut → ⊥) → (event ≡ Ev.Back → ⊥) → step ≡ record { answer = Say.Down; sends = None }
-      → Answers stands tells step core disk home past (site_line home past event)
+      → Answers stands tells 0 disk step core disk home past (site_line home past event)
   says_down core step disk home past event k down not_trip not_back says =
       let line = down_line home past event not_trip not_back (down_is stands core home past k.holds.memory down) in
-      answers_as stands tells step core disk home past _ (quiet event Say.Down) line.0
+      answers_as stands tells 0 disk step core disk home past _ (quiet event Say.Down) line.0
       (stands_still core core step disk home past event Say.Down core.store.trip k refl refl refl (λ tx. refl) (k.holds.memory.trip ∙ sym (ap (λ o. set o (Past.trip past)) line.1)) k.holds.memory.armed
       (λ e u. absurd (both (sym (ap is_up e) ∙ down))) says)
     where

@@ -1,5 +1,5 @@
 -- The line of a Prepare, and what a core stands for behind it.
-use Rattle.std.proofs.Common.{◌≡◌, ℕ, ◌≤◌, ◌==◌, ◌&&◌, ◌||◌, Bool, true, false, cond, is_some, IsSome, Option, Some, None, Err, List, [], ◌∷◌, ◌++◌, inr, length, refl, sym, ap, ap₂, ◌∙◌, subst, arith}
+use Rattle.std.proofs.Common.{◌≡◌, ℕ, ◌+◌, ◌≤◌, ◌==◌, ◌&&◌, ◌||◌, Bool, true, false, cond, is_some, IsSome, Option, Some, None, Err, List, [], ◌∷◌, ◌++◌, inr, length, refl, sym, ap, ap₂, ◌∙◌, subst, arith}
 use Rattle.std.specs.Prelude.{option_to_list}
 use Rattle.std.proofs.lemmas.Bool.{cond-true, cond-false, and_parts, and_from, eq-eqb, eqb-true}
 use Rattle.mdb_base.specs.declared.names.Tid.{Tid}
@@ -27,7 +27,7 @@ use Rattle.fed_rules.specs.Site.{answered, number_of, of_give, of_prepare, prepa
 use Rattle.fed_rules.specs.SitePast.{SiteHappening, SitePast, attempts_of, begins_tx, decides_on, engine_lines, epoch, epoch_start, is_closed, live, live_one}
 use Rattle.fed_rules.specs.SitePast as Past
 use Rattle.fed_rules.specs.SiteRecords.{Held, Home, doubt_of, local_of, site_frame}
-use Rattle.journal_disk.specs.Disk.{Seen}
+use Rattle.journal_disk.specs.Disk.{HasCalled, HasCalledAtMost, Seen}
 use Rattle.journal_disk.specs.Frames.{IsPayload}
 use Rattle.journal_sums.specs.Starts.{doubt_held}
 use Rattle.prepared_state.specs.Book.{doubt_about, stands_before}
@@ -39,7 +39,7 @@ use Rattle.actor_store.specs.declared.errors.StepErr.TheVariants as Err_is
 use Rattle.actor_store.specs.declared.store.Break.TheVariants.{Stopped, Failed}
 use Rattle.actor_store.specs.declared.store.Standing.{Standing}
 use Rattle.actor_store.specs.declared.store.Standing.TheVariants.{Up}
-use Rattle.actor_store.specs.Store.{Passes, is_up}
+use Rattle.actor_store.specs.Store.{Called, Passes, is_up}
 use Rattle.site_book.specs.declared.progress.Progress.{Progress}
 use Rattle.site_book.specs.Noted.{Noted, noted_of}
 use Rattle.site_book.specs.Book.{Book, begun_in, closes, live_in, live_part, progress_of, seals}
@@ -50,14 +50,16 @@ use Rattle.site_core.specs.Made.{was_local, was_found}
 use Rattle.site_core.specs.Notes.{Notes, NotesPast}
 use Rattle.site_core.specs.Operations.{finished_ticket}
 use Rattle.site_core.specs.Sealing.{HasFinished, SealsLive, StandsSealing}
-use Rattle.site_core.specs.Stands.{Adds, Answers, Breaks, Holds, IsIn, IsUp, Stands}
+use Rattle.site_core.specs.Stands.{Adds, Answers, Breaks, Holds, IsIn, IsUp, Stands, calls_for}
 use Rattle.site_core.specs.Store.{Ends, Keeps}
 use Rattle.site_core.proofs.CommitLaws.{puts_of-length}
 use Rattle.site_core.proofs.GlobalLaws.{none_counted, order_seals}
+use Rattle.site_core.proofs.CalledLaws.{give_calls}
 use Rattle.site_core.proofs.InquiryLaws.{none_doubted, some_doubted}
 use Rattle.site_core.proofs.LineLaws.{HasLive, live_some, noted_live}
 use Rattle.site_core.proofs.LocalLaws.{end_notes}
 use Rattle.site_core.proofs.NotesLaws.{known_before, notes_change}
+use Rattle.site_core.proofs.OperationLaws.{give_prepare}
 use Rattle.site_core.proofs.RememberLaws.{IsPlain, answers_as, carries_line, is_up_at, more_lines, passes_is, remembers_line, same_start, up_is}
 use Rattle.site_core.proofs.SealingLaws.{before_up, sealed_failed, sealed_run, sealed_stopped}
 use Rattle.site_core.proofs.SetUpLaws.{payload_of}
@@ -394,9 +396,9 @@ module _ {E : Type 0} (stands : E → Lines.Start → List EngineLine → Type 0
           → Passes (Past.trip past) 2 × Keeps (was_found past) tells disk' new.store (after_calls site_frame (Past.disk home past) (vote_line tid old.epoch n sealed ticket).calls) (used 2 (Past.trip past))
           → new.store.standing ≡ Up → new ≡ record old { book = seals tid old.book; doubts = new.doubts; store = new.store }
           → new.doubts.doubts ≡ inserted stands_before (record { tid = tid; epoch = old.epoch; ticket = ticket }) old.doubts.doubts
-          → step ≡ record { answer = Say.VotesYes tid ticket; sends = Some (From.Vote tid (Some ticket)) }
-          → Answers stands tells step new disk' home past (unless_tripped home past (of_prepare home past tid old.epoch n))
-      vote_done old new step disk disk' home past n ticket k up global absent given finished ends now is doubts says =
+          → step ≡ record { answer = Say.VotesYes tid ticket; sends = Some (From.Vote tid (Some ticket)) } → HasCalled 2 disk disk'
+          → Answers stands tells 0 disk step new disk' home past (unless_tripped home past (of_prepare home past tid old.epoch n))
+      vote_done old new step disk disk' home past n ticket k up global absent given finished ends now is doubts says called =
           let y = vote_line tid old.epoch n sealed ticket in
           let before : SiteCore E = record old { engine = k.engine } in
           let u = before_up stands tells tid sealed old disk home past k up in
@@ -418,7 +420,7 @@ module _ {E : Type 0} (stands : E → Lines.Start → List EngineLine → Type 0
           let S : E → Type 0 = λ e. stands e (epoch_start home past) (Seals tid sealed.number ∷ engine_lines past) in
           let engine : S new.engine = subst S (sym (ap (λ (c : SiteCore E). c.engine) is)) k.sealing in
           let more = doubts_more tid old.epoch sealed.number ticket sealed.writes old.doubts.doubts (Past.records home past) u.doubts absent in
-          answers_as stands tells step new disk' home past (unless_tripped home past (of_prepare home past tid old.epoch n)) y
+          answers_as stands tells 0 disk step new disk' home past (unless_tripped home past (of_prepare home past tid old.epoch n)) y
           (ap (unless_tripped home past) (vote_line_is old disk home past n ticket k up absent given finished) ∙ passes_is home past y ends.0)
           (record {
             answer = ap (λ (s : SiteStep). s.answer) says;
@@ -426,6 +428,7 @@ module _ {E : Type 0} (stands : E → Lines.Start → List EngineLine → Type 0
             carries = carries_line stands tells before new disk' home past y m up ends.1 now p
                 (up_doubting new home past y p engine (subst N (sym book) notes) (λ t. ap (doubt_about t) doubts ∙ more t) (ap (λ (c : SiteCore E). c.epoch) is ∙ u.epoch))
                 (λ tx. ap (λ (b : Book). begun_in b tx) book ∙ m.begun tx) (ap (λ (c : SiteCore E). c.protocol) is) tt;
+            called = called;
           }) where
             none_is : (run : Run) → ◌≡◌ {A = Option Run} None (Some run) → ⊥
             none_is run e = cc
@@ -434,21 +437,22 @@ module _ {E : Type 0} (stands : E → Lines.Start → List EngineLine → Type 0
           → old.store.standing ≡ Up → doubt_about tid old.doubts.doubts ≡ None → sealed.ticket ≡ Some ticket → HasFinished tid n home past
           → Ends {A = ℕ} (Keeps (was_found past) tells disk' new.store) (Past.disk home past) (Past.trip past) (vote_line tid old.epoch n sealed ticket).calls (Err (Stopped kept))
           → is_up new.store.standing ≡ false → new ≡ record old { store = new.store }
-          → step ≡ record { answer = Say.Stopped kept; sends = None }
-          → Answers stands tells step new disk' home past (unless_tripped home past (of_prepare home past tid old.epoch n))
-      vote_stopped old new step disk disk' home past n ticket kept k up absent given finished ends down is says =
+          → step ≡ record { answer = Say.Stopped kept; sends = None } → Called {A = ℕ} 0 (Past.trip past) (vote_line tid old.epoch n sealed ticket).calls disk disk' (Err (Stopped kept))
+          → Answers stands tells 0 disk step new disk' home past (unless_tripped home past (of_prepare home past tid old.epoch n))
+      vote_stopped old new step disk disk' home past n ticket kept k up absent given finished ends down is says called =
           sealed_stopped stands tells tid sealed old new step disk disk' home past (of_prepare home past tid old.epoch n) (vote_line tid old.epoch n sealed ticket) kept k
-          (vote_line_is old disk home past n ticket k up absent given finished) tt ends down is says
+          (vote_line_is old disk home past n ticket k up absent given finished) tt ends down is says refl called
 
       pub vote_failed : (old new : SiteCore E) (disk disk' : Seen) (home : Home) (past : SitePast) (n ticket : ℕ) (k : StandsSealing stands tells tid sealed old disk home past)
           → old.store.standing ≡ Up → doubt_about tid old.doubts.doubts ≡ None → sealed.ticket ≡ Some ticket → HasFinished tid n home past
           → Ends {A = ℕ} (Keeps (was_found past) tells disk' new.store) (Past.disk home past) (Past.trip past) (vote_line tid old.epoch n sealed ticket).calls (Err Failed)
-          → is_up new.store.standing ≡ false → new ≡ record old { store = new.store }
-          → Breaks stands tells Err_is.Disk new disk' home past (Ev.Give (To.Prepare tid old.epoch n))
-      vote_failed old new disk disk' home past n ticket k up absent given finished ends down is =
+          → is_up new.store.standing ≡ false → new ≡ record old { store = new.store } → HasCalledAtMost 2 disk disk'
+          → Breaks stands tells (0 + calls_for home past (Ev.Give (To.Prepare tid old.epoch n))) disk Err_is.Disk new disk' home past (Ev.Give (To.Prepare tid old.epoch n))
+      vote_failed old new disk disk' home past n ticket k up absent given finished ends down is called =
           let here = up_is stands (record old { engine = k.engine }) home past k.stood.holds.memory up in
           let y = vote_line tid old.epoch n sealed ticket in
           let goes : GoesOn home past (Ev.Give (To.Prepare tid old.epoch n)) y = λ calls cut.
           prepare_up home (trip_line calls cut ∷ past) tid old.epoch n here
           ∙ ap (unless_tripped home (trip_line calls cut ∷ past)) (prepare_goes tid home past old.epoch n calls cut ∙ vote_line_is old disk home past n ticket k up absent given finished) in
           sealed_failed stands tells tid sealed old new disk disk' home past (Ev.Give (To.Prepare tid old.epoch n)) y k up goes tt ends down is
+          (give_calls home past (To.Prepare tid old.epoch n) y (give_prepare home past tid old.epoch n ∙ vote_line_is old disk home past n ticket k up absent given finished)) called

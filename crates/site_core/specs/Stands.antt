@@ -1,5 +1,5 @@
 -- What the core of a site stands for: a home, and the list of what happened there, the newest first.
-use Rattle.std.specs.Prelude.{ℕ, ◌≡◌, Bool, true, not, option_to_list, List, [], ◌∷◌, reverse}
+use Rattle.std.specs.Prelude.{ℕ, ◌≡◌, ◌+◌, Bool, true, cond, not, option_to_list, List, [], ◌∷◌, length, reverse}
 use Rattle.mdb_base.specs.declared.names.Engine.{Engine}
 use Rattle.mdb_base.specs.declared.names.Tid.{Tid}
 use Rattle.mdb_base.specs.declared.names.Tx.{Tx}
@@ -10,12 +10,13 @@ use Rattle.fed_rules.specs.declared.events.SiteStep.{SiteStep}
 use Rattle.fed_rules.specs.Happenings.{is_down}
 use Rattle.fed_rules.specs.Runs as Lines
 use Rattle.fed_rules.specs.Runs.{EngineLine}
-use Rattle.fed_rules.specs.Site.{site_line}
+use Rattle.fed_rules.specs.Site.{answered, site_line}
 use Rattle.fed_rules.specs.SitePast.{SiteHappening, SitePast, epoch, epoch_start, engine_lines, attempts_of, journal}
 use Rattle.fed_rules.specs.SitePast as Past
 use Rattle.fed_rules.specs.SiteRecords.{Home, doubt_of, start_of}
-use Rattle.journal_disk.specs.Disk.{Seen}
+use Rattle.journal_disk.specs.Disk.{HasCalled, HasCalledAtMost, Seen}
 use Rattle.frame_journal.specs.Journal.{records}
+use Rattle.journal_rules.specs.Calls.{can_fail}
 use Rattle.prepared_state.specs.Book.{doubt_about}
 use Rattle.journal_sums.specs.Starts.{doubt_held}
 use Rattle.site_book.specs.Book.{begun_in}
@@ -24,7 +25,8 @@ use Rattle.actor_store.specs.declared.errors.StepErr.{StepErr}
 use Rattle.actor_store.specs.declared.errors.StepErr.TheVariants as Err_is
 use Rattle.actor_store.specs.declared.store.Standing.{Standing}
 use Rattle.actor_store.specs.declared.store.Standing.TheVariants.{Up, Down, Failing}
-use Rattle.actor_store.specs.Store.{IsArmed, is_up, trip_of_rules}
+use Rattle.actor_store.specs.Store as actor
+use Rattle.actor_store.specs.Store.{IsArmed, is_up, reloads, trip_of_rules, uncounted}
 use Rattle.site_core.specs.Made.{IsGoingOn, was_found}
 use Rattle.site_core.specs.Notes.{NotesPast}
 use Rattle.site_core.specs.Recovered.{LocalsOnce}
@@ -89,17 +91,25 @@ pub record Adds {E : Type 0} (stands : E → Lines.Start → List EngineLine →
   pub sends : option_to_list step.sends ≡ x.sends
   pub memory : Remembers stands core home (x ∷ past)
 
--- and on its disk
-pub record Answers {E : Type 0} (stands : E → Lines.Start → List EngineLine → Type 0) (tells : Bool) (step : SiteStep) (core : SiteCore E) (disk : Seen) (home : Home) (past : SitePast) (x : SiteHappening) : Type 0 where
+-- how many calls a step makes beside those of the rules: a start reads the disk, and behind a failed call it cuts back where nothing is torn
+abbrev pub beside_rules : {E : Type 0} → SiteEvent → SiteCore E → Seen → ℕ
+beside_rules Ev.Back core disk = cond (is_up core.store.standing) 0 (reloads core.store.is_fresh disk.size + uncounted (actor.stored core.store))
+beside_rules event core disk = 0
+
+-- and on its disk, which had each call of the line once, and so many beside them, since it was seen before
+pub record Answers {E : Type 0} (stands : E → Lines.Start → List EngineLine → Type 0) (tells : Bool) (beside : ℕ) (before : Seen) (step : SiteStep) (core : SiteCore E) (disk : Seen) (home : Home) (past : SitePast) (x : SiteHappening) : Type 0 where
   pub answer : step.answer ≡ x.answer
   pub sends : option_to_list step.sends ≡ x.sends
   pub carries : Carries stands tells core disk home (x ∷ past)
+  pub called : HasCalled (beside + can_fail x.calls) before disk
 
--- the step says and sends what the line does, and the core with this disk stands for the line added
-pub record Steps {E : Type 0} (stands : E → Lines.Start → List EngineLine → Type 0) (tells : Bool) (step : SiteStep) (core : SiteCore E) (disk : Seen) (home : Home) (past : SitePast) (x : SiteHappening) : Type 0 where
+-- the step says and sends what the line does, and the core with this disk stands for the line added. The disk had each call of the line once, and
+-- so many beside them
+pub record Steps {E : Type 0} (stands : E → Lines.Start → List EngineLine → Type 0) (tells : Bool) (beside : ℕ) (before : Seen) (step : SiteStep) (core : SiteCore E) (disk : Seen) (home : Home) (past : SitePast) (x : SiteHappening) : Type 0 where
   pub answer : step.answer ≡ x.answer
   pub sends : option_to_list step.sends ≡ x.sends
   pub stood : Stands stands tells core disk home (x ∷ past)
+  pub called : HasCalled (beside + can_fail x.calls) before disk
 
 -- a stop that is as a failed disk call: it comes before the event, or right after so many of its disk calls
 pub data StopAt : Type 0 where
@@ -115,14 +125,19 @@ abbrev pub stopped_past : Home → SitePast → SiteEvent → StopAt → SitePas
 stopped_past home past event (Before cut) = behind home (behind home past (Ev.Trip 0 0)) (Ev.Halt cut)
 stopped_past home past event (Within calls cut) = behind home (behind home past (Ev.Trip calls cut)) event
 
--- an event that isn't answered: want of memory changes nothing, and a failed disk call leaves the site down, as such a stop leaves it
-abbrev pub Fails : {E : Type 0} → (E → Lines.Start → List EngineLine → Type 0) → Bool → StepErr → SiteCore E → Seen → Home → SitePast → SiteEvent → Type 0
-Fails stands tells Err_is.Memory core disk home past event = Stands stands tells core disk home past
-Fails stands tells Err_is.Disk core disk home past event =
-    (at : StopAt) × Stands stands tells core disk home (stopped_past home past event at) × (is_down (stopped_past home past event at) ≡ true)
+-- how many disk calls the rules have for the event, where no trip comes within them
+abbrev pub calls_for : Home → SitePast → SiteEvent → ℕ
+calls_for home past event = length (answered home past event).calls
+
+-- an event that isn't answered: want of memory changes nothing, and a failed disk call leaves the site down, as such a stop leaves it. The disk had
+-- at most so many calls
+abbrev pub Fails : {E : Type 0} → (E → Lines.Start → List EngineLine → Type 0) → Bool → ℕ → Seen → StepErr → SiteCore E → Seen → Home → SitePast → SiteEvent → Type 0
+Fails stands tells most before Err_is.Memory core disk home past event = Stands stands tells core disk home past × HasCalledAtMost most before disk
+Fails stands tells most before Err_is.Disk core disk home past event =
+    (at : StopAt) × Stands stands tells core disk home (stopped_past home past event at) × (is_down (stopped_past home past event at) ≡ true) × HasCalledAtMost most before disk
 
 -- the same of what the core has in memory and on its disk
-abbrev pub Breaks : {E : Type 0} → (E → Lines.Start → List EngineLine → Type 0) → Bool → StepErr → SiteCore E → Seen → Home → SitePast → SiteEvent → Type 0
-Breaks stands tells Err_is.Memory core disk home past event = Carries stands tells core disk home past
-Breaks stands tells Err_is.Disk core disk home past event =
-    (at : StopAt) × Carries stands tells core disk home (stopped_past home past event at) × (is_down (stopped_past home past event at) ≡ true)
+abbrev pub Breaks : {E : Type 0} → (E → Lines.Start → List EngineLine → Type 0) → Bool → ℕ → Seen → StepErr → SiteCore E → Seen → Home → SitePast → SiteEvent → Type 0
+Breaks stands tells most before Err_is.Memory core disk home past event = Carries stands tells core disk home past × HasCalledAtMost most before disk
+Breaks stands tells most before Err_is.Disk core disk home past event =
+    (at : StopAt) × Carries stands tells core disk home (stopped_past home past event at) × (is_down (stopped_past home past event at) ≡ true) × HasCalledAtMost most before disk

@@ -1,5 +1,5 @@
 -- What a step of a core asks of the past, and what it does to the pasts that the core stands for.
-use Rattle.std.specs.Prelude.{◌≡◌, ◌+◌, ◌<◌, ◌^◌, Bool, false, Some, List, length}
+use Rattle.std.specs.Prelude.{ℕ, ◌≡◌, ◌+◌, ◌<◌, ◌^◌, Bool, false, Some, List, length}
 use Rattle.mdb_base.specs.declared.names.Tid.{Tid}
 use Rattle.field_bytes.specs.Fields.{IsTid}
 use Rattle.fed_rules.specs.declared.events.SiteEvent.{SiteEvent}
@@ -15,7 +15,7 @@ use Rattle.journal_disk.specs.Disk.{Seen}
 use Rattle.actor_store.specs.declared.errors.StepErr.{StepErr}
 use Rattle.site_core.specs.declared.site.SiteCore.{SiteCore}
 use Rattle.site_core.specs.Made.{was_begun, was_global, was_local}
-use Rattle.site_core.specs.Stands.{Adds, Answers, Breaks, Fails, Holds, Stands, Steps}
+use Rattle.site_core.specs.Stands.{Adds, Answers, Breaks, Fails, Holds, Stands, Steps, beside_rules, calls_for}
 
 -- for some past that it stands for the fact holds
 pub record SomePast (K : Home → SitePast → Type 0) (P : Home → SitePast → Type 0) : Type 0 where
@@ -119,28 +119,39 @@ module _ {E : Type 0} (stands : E → Start → List EngineLine → Type 0) (tel
   -- line
   abbrev pub StepsOn : SiteEvent → SiteStep → Type 0
   StepsOn event step =
-      EachPast (Stands stands tells old before) (λ home past. CanStep event home past → Steps stands tells step new after home past (site_line home past event))
+      EachPast (Stands stands tells old before)
+      (λ home past. CanStep event home past → Steps stands tells (beside_rules event old before) before step new after home past (site_line home past event))
 
   -- of each such past the event isn't answered, for this reason, and the new core stands for what that leaves
   abbrev pub FailsOn : SiteEvent → StepErr → Type 0
-  FailsOn event why = EachPast (Stands stands tells old before) (λ home past. CanStep event home past → Fails stands tells why new after home past event)
+  FailsOn event why =
+      EachPast (Stands stands tells old before)
+      (λ home past. CanStep event home past → Fails stands tells (beside_rules event old before + calls_for home past event) before why new after home past event)
 
   -- of each past for which the old core stood, where this may come, the step is that of this line, and the new core has the line in memory
-  -- and on its disk
-  abbrev pub AnswersWhere : (Home → SitePast → Type 0) → (Home → SitePast → SiteHappening) → SiteStep → Type 0
-  AnswersWhere Can line step =
-      EachPast (Stands stands tells old before) (λ home past. Can home past → Answers stands tells step new after home past (line home past))
+  -- and on its disk, which had so many calls beside those of the line
+  abbrev pub AnswersBeside : ℕ → (Home → SitePast → Type 0) → (Home → SitePast → SiteHappening) → SiteStep → Type 0
+  AnswersBeside beside Can line step =
+      EachPast (Stands stands tells old before) (λ home past. Can home past → Answers stands tells beside before step new after home past (line home past))
 
   -- of each such past the event isn't answered, for this reason, and the new core has in memory and on its disk what that leaves
+  abbrev pub BreaksBeside : ℕ → (Home → SitePast → Type 0) → SiteEvent → StepErr → Type 0
+  BreaksBeside beside Can event why =
+      EachPast (Stands stands tells old before) (λ home past. Can home past → Breaks stands tells (beside + calls_for home past event) before why new after home past event)
+
+  -- the same where the disk had the calls of the line alone
+  abbrev pub AnswersWhere : (Home → SitePast → Type 0) → (Home → SitePast → SiteHappening) → SiteStep → Type 0
+  AnswersWhere Can line step = AnswersBeside 0 Can line step
+
   abbrev pub BreaksWhere : (Home → SitePast → Type 0) → SiteEvent → StepErr → Type 0
-  BreaksWhere Can event why = EachPast (Stands stands tells old before) (λ home past. Can home past → Breaks stands tells why new after home past event)
+  BreaksWhere Can event why = BreaksBeside 0 Can event why
 
   -- the same of each past for which the old core stood, whatever it is
-  abbrev pub AnswersEach : (Home → SitePast → SiteHappening) → SiteStep → Type 0
-  AnswersEach line step = EachPast (Stands stands tells old before) (λ home past. Answers stands tells step new after home past (line home past))
+  abbrev pub AnswersEach : ℕ → (Home → SitePast → SiteHappening) → SiteStep → Type 0
+  AnswersEach beside line step = EachPast (Stands stands tells old before) (λ home past. Answers stands tells beside before step new after home past (line home past))
 
-  abbrev pub BreaksEach : SiteEvent → StepErr → Type 0
-  BreaksEach event why = EachPast (Stands stands tells old before) (λ home past. Breaks stands tells why new after home past event)
+  abbrev pub BreaksEach : ℕ → SiteEvent → StepErr → Type 0
+  BreaksEach beside event why = EachPast (Stands stands tells old before) (λ home past. Breaks stands tells (beside + calls_for home past event) before why new after home past event)
 
 -- of each past that the old core held in memory, where this may come, the step is that of this line, and the new core has it in memory
 abbrev pub AddsWhere : {E : Type 0} → (E → Start → List EngineLine → Type 0) → SiteCore E → SiteCore E → (Home → SitePast → Type 0) → (Home → SitePast → SiteHappening) → SiteStep → Type 0

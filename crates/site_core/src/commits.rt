@@ -1,9 +1,9 @@
 //! The commit of a local attempt: it is sealed, its record is forced, and its writes are installed.
-ghost use Rattle.std.specs.Prelude.{◌≡◌, IfOk, IfErr, IsTrue};
+ghost use Rattle.std.specs.Prelude.{◌≡◌, ◌+◌, IfOk, IfErr, IsTrue};
 ghost use Rattle.mdb_base.specs.Counts.{HasCauseOf};
 ghost use Rattle.fed_rules.specs.Site.{of_commit, unless_tripped};
 ghost use Rattle.site_core.specs.Sealing.{StandsSealing};
-ghost use Rattle.site_core.specs.Stands.{Answers, Breaks, Stands};
+ghost use Rattle.site_core.specs.Stands.{Answers, Breaks, Stands, calls_for};
 ghost use Rattle.site_core.specs.Steps.{AnswersWhere, BreaksWhere, CanStep, EachPast, SomePast};
 
 use crate::answers::{refusal_answer, says};
@@ -57,10 +57,10 @@ impl<E: LocalEngine> SiteCore<E> {
         requires up { self.old.store.standing ≡ Standing.Up }
         requires may { SomePast (StandsSealing E.stands D.tells tid sealed self.old (D.seen disk.old)) (CanStep (SiteEvent.Commit tid)) }
         ensures answered { IfOk result (λ step. EachPast (StandsSealing E.stands D.tells tid sealed self.old (D.seen disk.old))
-            (λ home past. CanStep (SiteEvent.Commit tid) home past → Answers E.stands D.tells step self.new (D.seen disk.new) home past
+            (λ home past. CanStep (SiteEvent.Commit tid) home past → Answers E.stands D.tells 0 (D.seen disk.old) step self.new (D.seen disk.new) home past
             (unless_tripped home past (of_commit home past tid)))) }
         ensures failed { IfErr result (λ why. EachPast (StandsSealing E.stands D.tells tid sealed self.old (D.seen disk.old))
-            (λ home past. CanStep (SiteEvent.Commit tid) home past → Breaks E.stands D.tells why self.new (D.seen disk.new) home past (SiteEvent.Commit tid))) }
+            (λ home past. CanStep (SiteEvent.Commit tid) home past → Breaks E.stands D.tells (0 + calls_for home past (SiteEvent.Commit tid)) (D.seen disk.old) why self.new (D.seen disk.new) home past (SiteEvent.Commit tid))) }
         ensures cause { HasCauseOf StepErr.Disk (D.seen disk.old).faults (D.seen disk.new).faults result }
     {
         let Sealed {

@@ -12,7 +12,7 @@ ghost use Rattle.fed_rules.specs.SiteRecords.{Home};
 ghost use Rattle.frame_journal.specs.Journal.{HasRoom, written_size};
 ghost use Rattle.journal_disk.specs.Frames.{IsPayload};
 ghost use Rattle.site_journal.specs.Spelling.{InRange, spelling};
-ghost use Rattle.actor_store.specs.Store.{Old, SomeKeptBehind, is_up};
+ghost use Rattle.actor_store.specs.Store.{Called, Old, SomeKeptBehind, is_up};
 ghost use Rattle.engine_contract.specs.Calls.{CanCommit as CanCommitRun};
 ghost use Rattle.engine_contract.specs.Past.{AddsLine, SomePast as SomeLines};
 ghost use Rattle.prepared_state.specs.Book.{doubt_about};
@@ -115,6 +115,8 @@ impl<E: LocalEngine> SiteCore<E> {
         requires payload { IsPayload (spelling entry) }
         ensures ends { (old : Old SiteRecord) (rules : RulesDisk SiteRecord) (trip : Option Trip) → KeepsBehind D.tells (D.seen disk.old) self.old.store old rules trip
             → Ends (KeepsBehind D.tells (D.seen disk.new) self.new.store old) rules trip (Append entry ∷ cond (forces self.old.protocol decision) (Sync ∷ []) []) result }
+        ensures called { (old : Old SiteRecord) (rules : RulesDisk SiteRecord) (trip : Option Trip) → KeepsBehind D.tells (D.seen disk.old) self.old.store old rules trip
+            → Called 0 trip (Append entry ∷ cond (forces self.old.protocol decision) (Sync ∷ []) []) (D.seen disk.old) (D.seen disk.new) result }
         ensures standing { OnOk result (self.new.store.standing ≡ Standing.Up) }
         ensures down { OnErr result (is_up self.new.store.standing ≡ false) }
         ensures rest { self.new ≡ record self.old { store = self.new.store } }

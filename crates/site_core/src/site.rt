@@ -17,13 +17,14 @@ ghost use Rattle.fed_rules.specs.SitePast.{attempts_of, engine_lines, epoch_star
 ghost use Rattle.fed_rules.specs.SiteRecords.{doubt_of, local_of, site_rows};
 ghost use Rattle.engine_contract.specs.Calls.{fresh_start};
 ghost use Rattle.site_book.specs.Noted.{noted_of};
+ghost use Rattle.journal_disk.specs.Disk.{TakesCalls, reads};
 ghost use Rattle.actor_store.specs.Store.{is_up};
 ghost use Rattle.prepared_state.specs.Book.{doubt_about};
 ghost use Rattle.journal_sums.specs.Starts.{doubt_held};
 ghost use Rattle.site_core.specs.Made.{was_global};
 ghost use Rattle.site_core.specs.Found.{IsFoundOn, SomeJournal};
-ghost use Rattle.site_core.specs.Stands.{Holds, IsOfKind, Stands};
-ghost use Rattle.site_core.specs.Steps.{AnswersWhere, BreaksWhere, CanStep, EachPast, FailsOn, SomePast, StepsOn};
+ghost use Rattle.site_core.specs.Stands.{Holds, IsOfKind, Stands, beside_rules};
+ghost use Rattle.site_core.specs.Steps.{AnswersBeside, AnswersWhere, BreaksBeside, BreaksWhere, CanStep, EachPast, FailsOn, SomePast, StepsOn};
 ghost use Rattle.site_core.specs.Store.{SomeStop};
 
 use crate::answers::says;
@@ -74,6 +75,7 @@ impl<E: LocalEngine> SiteCore<E> {
         ensures untouched { IsErrOf result StepErr.Memory → (D.seen disk.new).size ≡ 0 }
         ensures broken { IsErrOf result StepErr.Disk → SomeStop (D.seen disk.new).image empty_disk
             (set_up_calls (record { site = site; engine = engine; protocol = protocol; items = items })) }
+        ensures called { TakesCalls 3 (D.seen disk.old) (D.seen disk.new) result }
         ensures cause { HasCauseOf StepErr.Disk (D.seen disk.old).faults (D.seen disk.new).faults result }
     {
         let Ok(doubts) = PreparedBook::new(alloc) else {
@@ -101,6 +103,7 @@ impl<E: LocalEngine> SiteCore<E> {
             → IsOfKind E.stands local home.engine → Stands E.stands D.tells core (D.seen disk.new) home (opened_site journal)) }
         ensures image { (D.seen disk.new).image ≡ (D.seen disk.old).image }
         ensures size { (D.seen disk.new).size ≡ (D.seen disk.old).size }
+        ensures called { TakesCalls (reads (D.seen disk.old).size) (D.seen disk.old) (D.seen disk.new) result }
         ensures cause { HasCauseOf StepErr.Disk (D.seen disk.old).faults (D.seen disk.new).faults result }
     {
         let Ok(doubts) = PreparedBook::new(alloc) else {
@@ -124,7 +127,8 @@ impl<E: LocalEngine> SiteCore<E> {
 
     /// Answers the next event. Without memory neither the core nor the disk changes. Where a disk call fails, which comes only where
     /// the disk's count of faults rose, the site is down, as after a stop within the disk calls of the event: behind the whole frames stand
-    /// the first bytes of the frame that it tore.
+    /// the first bytes of the frame that it tore. The disk gets each disk call of the event once. A start reads it too, and behind a failed
+    /// call it cuts back where nothing is torn.
     pub fn step<D: Disk>(
         &mut self,
         alloc: Global,
@@ -265,8 +269,8 @@ impl<E: LocalEngine> SiteCore<E> {
         requires told { IsTrue D.tells }
         requires down { is_up self.old.store.standing ≡ false }
         requires may { SomePast (Stands E.stands D.tells self.old (D.seen disk.old)) (CanStep event) }
-        ensures answered { IfOk result (AnswersWhere E.stands D.tells self.old (D.seen disk.old) self.new (D.seen disk.new) (CanStep event) (λ home past. site_line home past event)) }
-        ensures failed { IfErr result (BreaksWhere E.stands D.tells self.old (D.seen disk.old) self.new (D.seen disk.new) (CanStep event) event) }
+        ensures answered { IfOk result (AnswersBeside E.stands D.tells self.old (D.seen disk.old) self.new (D.seen disk.new) (beside_rules event self.old (D.seen disk.old)) (CanStep event) (λ home past. site_line home past event)) }
+        ensures failed { IfErr result (BreaksBeside E.stands D.tells self.old (D.seen disk.old) self.new (D.seen disk.new) (beside_rules event self.old (D.seen disk.old)) (CanStep event) event) }
         ensures cause { HasCauseOf StepErr.Disk (D.seen disk.old).faults (D.seen disk.new).faults result }
     {
         match event {

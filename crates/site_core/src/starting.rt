@@ -2,7 +2,7 @@
 ghost use Rattle.std.specs.Prelude.{◌≡◌, [], false, map, IfOk, IfErr, IsTrue, OnOk, OnErr};
 ghost use Rattle.mdb_base.specs.Counts.{HasCauseOf};
 ghost use Rattle.fed_rules.specs.Site.{site_line};
-ghost use Rattle.actor_store.specs.Store.{is_up};
+ghost use Rattle.actor_store.specs.Store.{is_up, stored, uncounted};
 ghost use Rattle.mdb_base.specs.declared.names.Tid.{Tid};
 ghost use Rattle.mdb_base.specs.declared.names.Tx.{Tx};
 ghost use Rattle.fed_rules.specs.EngineLines.{IsStart};
@@ -13,7 +13,7 @@ ghost use Rattle.prepared_state.specs.Book.{AreApart, doubt_about};
 ghost use Rattle.journal_sums.specs.Starts.{doubt_held};
 ghost use Rattle.site_book.specs.Book.{begun_in, restarted};
 ghost use Rattle.site_core.specs.Recovered.{held_tid};
-ghost use Rattle.site_core.specs.Stands.{Stands};
+ghost use Rattle.site_core.specs.Stands.{Stands, beside_rules};
 ghost use Rattle.site_core.specs.Steps.{AnswersEach, BreaksEach, CanStep, SomePast};
 
 use crate::answers::says;
@@ -34,8 +34,8 @@ impl<E: LocalEngine> SiteCore<E> {
         requires told { IsTrue D.tells }
         requires down { is_up self.old.store.standing ≡ false }
         requires may { SomePast (Stands E.stands D.tells self.old (D.seen disk.old)) (CanStep SiteEvent.Back) }
-        ensures answered { IfOk result (AnswersEach E.stands D.tells self.old (D.seen disk.old) self.new (D.seen disk.new) (λ home past. site_line home past SiteEvent.Back)) }
-        ensures failed { IfErr result (BreaksEach E.stands D.tells self.old (D.seen disk.old) self.new (D.seen disk.new) SiteEvent.Back) }
+        ensures answered { IfOk result (AnswersEach E.stands D.tells self.old (D.seen disk.old) self.new (D.seen disk.new) (beside_rules SiteEvent.Back self.old (D.seen disk.old)) (λ home past. site_line home past SiteEvent.Back)) }
+        ensures failed { IfErr result (BreaksEach E.stands D.tells self.old (D.seen disk.old) self.new (D.seen disk.new) (beside_rules SiteEvent.Back self.old (D.seen disk.old)) SiteEvent.Back) }
         ensures cause { HasCauseOf StepErr.Disk (D.seen disk.old).faults (D.seen disk.new).faults result }
     {
         match self.store.reload(alloc, disk) {
@@ -54,8 +54,8 @@ impl<E: LocalEngine> SiteCore<E> {
         requires told { IsTrue D.tells }
         requires down { is_up self.old.store.standing ≡ false }
         requires may { SomePast (Stands E.stands D.tells self.old (D.seen disk.old)) (CanStep SiteEvent.Back) }
-        ensures answered { IfOk result (AnswersEach E.stands D.tells self.old (D.seen disk.old) self.new (D.seen disk.new) (λ home past. site_line home past SiteEvent.Back)) }
-        ensures failed { IfErr result (BreaksEach E.stands D.tells self.old (D.seen disk.old) self.new (D.seen disk.new) SiteEvent.Back) }
+        ensures answered { IfOk result (AnswersEach E.stands D.tells self.old (D.seen disk.old) self.new (D.seen disk.new) (uncounted (stored self.old.store)) (λ home past. site_line home past SiteEvent.Back)) }
+        ensures failed { IfErr result (BreaksEach E.stands D.tells self.old (D.seen disk.old) self.new (D.seen disk.new) (uncounted (stored self.old.store)) SiteEvent.Back) }
         ensures cause { HasCauseOf StepErr.Disk (D.seen disk.old).faults (D.seen disk.new).faults result }
     {
         let Ok(sum) = read_sum(alloc, self.store.records()) else {

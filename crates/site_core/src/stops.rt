@@ -18,7 +18,7 @@ impl<E: LocalEngine> SiteCore<E> {
         requires told { IsTrue D.tells }
         requires up { self.old.store.standing ≡ Standing.Up }
         requires may { SomePast (Stands E.stands D.tells self.old (D.seen disk.old)) AnyPast }
-        ensures answered { AnswersEach E.stands D.tells self.old (D.seen disk.old) self.new (D.seen disk.new) (λ home past. site_line home past (SiteEvent.Halt cut)) result }
+        ensures answered { AnswersEach E.stands D.tells self.old (D.seen disk.old) self.new (D.seen disk.new) 0 (λ home past. site_line home past (SiteEvent.Halt cut)) result }
         ensures faults { (D.seen disk.new).faults ≡ (D.seen disk.old).faults }
     {
         let kept = self.store.stop(disk, cut);

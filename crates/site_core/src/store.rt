@@ -7,6 +7,7 @@ ghost use Rattle.fed_rules.specs.SiteRecords.{Home, site_frame};
 ghost use Rattle.fed_rules.specs.Usable.{home_of_first};
 ghost use Rattle.record_fields.specs.Named.{IsSite};
 ghost use Rattle.frame_journal.specs.Journal.{written_size};
+ghost use Rattle.journal_disk.specs.Disk.{TakesCalls};
 ghost use Rattle.journal_disk.specs.Frames.{IsPayload};
 ghost use Rattle.site_journal.specs.Spelling.{InRange, spelling};
 ghost use Rattle.site_core.specs.Store.{Keeps, SomeStop};
@@ -41,6 +42,7 @@ pub fn set_up_store<D: Disk>(
     ensures untouched { IsErrOf result StepErr.Memory → (D.seen disk.new).size ≡ 0 }
     ensures broken { IsErrOf result StepErr.Disk → SomeStop (D.seen disk.new).image empty_disk
         (set_up_calls (record { site = site; engine = engine; protocol = protocol; items = items })) }
+    ensures called { TakesCalls 3 (D.seen disk.old) (D.seen disk.new) result }
     ensures cause { HasCauseOf StepErr.Disk (D.seen disk.old).faults (D.seen disk.new).faults result }
 {
     let setup = SiteRecord::Setup {
@@ -91,6 +93,7 @@ fn begin_journal<D: Disk>(
     ensures memory { IsErrOf result StepErr.Memory → (D.seen disk.new).image ≡ (D.seen disk.old).image }
     ensures untouched { IsErrOf result StepErr.Memory → (D.seen disk.new).size ≡ 0 }
     ensures broken { IsErrOf result StepErr.Disk → SomeStop (D.seen disk.new).image empty_disk (Append setup ∷ Append start ∷ Sync ∷ []) }
+    ensures called { TakesCalls 3 (D.seen disk.old) (D.seen disk.new) result }
     ensures cause { HasCauseOf StepErr.Disk (D.seen disk.old).faults (D.seen disk.new).faults result }
 {
     let mut store = store;

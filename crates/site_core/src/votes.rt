@@ -1,5 +1,5 @@
 //! The vote of a site on a subtransaction: its run is sealed, its Prepared record is forced, and the site is in doubt of it.
-ghost use Rattle.std.specs.Prelude.{◌≡◌, ℕ, None, Some, IfOk, IfErr, IsTrue};
+ghost use Rattle.std.specs.Prelude.{◌≡◌, ◌+◌, ℕ, None, Some, IfOk, IfErr, IsTrue};
 ghost use Rattle.mdb_base.specs.Counts.{HasCauseOf};
 ghost use Rattle.fed_rules.specs.Site.{of_prepare, unless_tripped};
 ghost use Rattle.fed_rules.specs.declared.answers.Answer.TheVariants as Say;
@@ -9,7 +9,7 @@ ghost use Rattle.prepared_state.specs.Book.{doubt_about};
 ghost use Rattle.site_book.specs.Book.{live_in};
 ghost use Rattle.site_core.specs.Operations.{finished_ticket};
 ghost use Rattle.site_core.specs.Sealing.{HasFinished, StandsSealing};
-ghost use Rattle.site_core.specs.Stands.{Answers, Breaks, Stands};
+ghost use Rattle.site_core.specs.Stands.{Answers, Breaks, Stands, calls_for};
 ghost use Rattle.site_core.specs.Steps.{AnswersWhere, BreaksWhere, CanPrepare, EachPast, SomePast};
 
 use crate::answers::says;
@@ -88,10 +88,10 @@ impl<E: LocalEngine> SiteCore<E> {
         requires ticket { sealed.ticket ≡ Some ticket }
         requires may { SomePast (StandsSealing E.stands D.tells tid sealed self.old (D.seen disk.old)) (CanPrepare tid) }
         ensures answered { IfOk result (λ step. EachPast (StandsSealing E.stands D.tells tid sealed self.old (D.seen disk.old))
-            (λ home past. CanPrepare tid home past → (n : ℕ) → HasFinished tid n home past → Answers E.stands D.tells step self.new (D.seen disk.new) home past
+            (λ home past. CanPrepare tid home past → (n : ℕ) → HasFinished tid n home past → Answers E.stands D.tells 0 (D.seen disk.old) step self.new (D.seen disk.new) home past
             (unless_tripped home past (of_prepare home past tid self.old.epoch n)))) }
         ensures failed { IfErr result (λ why. EachPast (StandsSealing E.stands D.tells tid sealed self.old (D.seen disk.old))
-            (λ home past. CanPrepare tid home past → (n : ℕ) → HasFinished tid n home past → Breaks E.stands D.tells why self.new (D.seen disk.new) home past (SiteEvent.Give (To.Prepare tid self.old.epoch n)))) }
+            (λ home past. CanPrepare tid home past → (n : ℕ) → HasFinished tid n home past → Breaks E.stands D.tells (0 + calls_for home past (SiteEvent.Give (To.Prepare tid self.old.epoch n))) (D.seen disk.old) why self.new (D.seen disk.new) home past (SiteEvent.Give (To.Prepare tid self.old.epoch n)))) }
         ensures cause { HasCauseOf StepErr.Disk (D.seen disk.old).faults (D.seen disk.new).faults result }
     {
         let Ok(()) = self.doubts.reserve(alloc) else {

@@ -438,8 +438,8 @@ fn play_own<P: TakePolicy>(
     Ok(true)
 }
 
-// A line of a script: the manager carries it out, or it is taken as it stands, where it is a site's. Says whether the script goes on.
-fn play_line<P: TakePolicy>(
+/// A line of a script: the manager carries it out, or it is taken as it stands, where it is a site's. Says whether the script goes on.
+pub(super) fn play_line<P: TakePolicy>(
     rt: &impl Abort,
     alloc: Global,
     manager: &mut GlobalManager<P>,

@@ -14,7 +14,7 @@ invariant-loop-calls g l =
       kept_on : IsKeptOn format.spelling g.D.Disk.tells seen l.journal;
       may : AllByRecursion (MayBeMade format.spelling format.in_range format.is_checkpoint) l.calls.items;
       later : start.faults ≤ seen.faults;
-      makes : IsTrue g.D.Disk.tells → NoneFailed start.faults seen.faults → Makes format.spelling format.is_record format.frame_bytes seen.image l.fn.calls.items l.calls.items;
+      makes : IsTrue g.D.Disk.tells → NoneFailed start.faults seen.faults → Makes format.spelling format.is_record format.frame_bytes start seen l.fn.calls.items l.calls.items;
     }
 
 abbrev pub decreases-loop-calls : goal.decreases-loop-calls

@@ -2,6 +2,7 @@ use Rattle.std.proofs.Common.{[], ◌∷◌, ◌∙◌, ap, sym, arith}
 use Rattle.fed_rules.specs.Disk.{Append}
 use Rattle.journal_disk.specs.Disk.{appended}
 use Rattle.journal_disk.specs.Frames.{frame}
+use Rattle.journal_disk.proofs.ForCallers.{calls_behind}
 use Rattle.journal_rules.specs.Calls.{NoneFailed}
 use Rattle.journal_rules.proofs.Making.{done, none_within, none_written, note_follows}
 use Rattle.journal_rules.proofs.calls.note.Goals as goal
@@ -21,4 +22,5 @@ returns-clause-follows g c = λ told none.
     let here : NoneFailed reserved.faults new.faults = none_within old.faults reserved.faults new.faults new.faults (omega (arith, calm)) later (omega arith) none in
     let image = done reserved.faults new.faults c.note.result c.note.ensures.cause here c.note.ensures.image_ok told in
     note_follows g.F.Format.spelling g.F.Format.is_record g.F.Format.frame_bytes g.met.F.Format.counts_frames g.D.Disk.tells old c.args.journal.now told (g.met.D.Disk.told_size c.args.disk.now told) c.requires.kept_on
-    c.args.entry (sym c.is_torn.ensures ∙ c.if-is_torn.false) c.requires.writable.payload c.note.ensures.is_record new.image (image ∙ ap (appended (frame (g.F.Format.spelling c.args.entry))) (c.in_ok-reserve.ensures.image told))
+    c.args.entry (sym c.is_torn.ensures ∙ c.if-is_torn.false) c.requires.writable.payload c.note.ensures.is_record new (image ∙ ap (appended (frame (g.F.Format.spelling c.args.entry))) (c.in_ok-reserve.ensures.image told))
+    (calls_behind 1 old reserved new c.in_ok-reserve.ensures.called c.note.ensures.called)

@@ -1,6 +1,7 @@
-use Rattle.std.proofs.Common.{ℕ, None, Err, [], ◌∷◌}
+use Rattle.std.proofs.Common.{ℕ, None, Err, [], ◌∷◌, arith}
 use Rattle.fed_rules.specs.Disk.{Append, Sync, after_call, empty_disk}
 use Rattle.fed_rules.specs.SiteRecords.{site_frame}
+use Rattle.journal_disk.proofs.ForCallers.{at_most, at_most_add, calls_add}
 use Rattle.actor_store.specs.declared.store.Break.TheVariants.{Failed}
 use Rattle.site_core.specs.Store.{KeepsBehind}
 use Rattle.actor_store.proofs.ForCallers.{ends_early, ends_more, from_failed, from_kept}
@@ -41,3 +42,24 @@ returns-in-Err-Failed-clause-broken g c = λ e.
     let ended = rw c.in-Err-Failed.field-0-is at (c.in-Err-Failed.ensures.ends _ _ _ k.behind) in
     let all = ends_early site_frame (KeepsBehind g.D.Disk.tells (g.D.Disk.seen c.append.new.disk) c.append.new.self k.old) empty_disk None (Append c.args.setup ∷ []) (Append c.args.start ∷ Sync ∷ []) Failed ended in
     broken_holds g.D.Disk.tells (g.D.Disk.seen c.append.new.disk) c.append.new.self empty_disk (Append c.args.setup ∷ Append c.args.start ∷ Sync ∷ []) (from_failed k all)
+
+pub returns-in-Ok-force-clause-called : goal.returns-in-Ok-force-clause-called
+returns-in-Ok-force-clause-called g c =
+    let k = c.requires.kept in
+    let seen = g.D.Disk.seen in
+    record {
+      done = calls_add 1 2 (seen c.args.disk.now) (seen c.append.new.disk) (seen c.force.new.disk) c.append.ensures.called (c.in-Ok-force.ensures.called _ _ _ (c.in-Ok.ensures.ends _ _ _ k.behind).1);
+      failed = tt;
+    }
+
+pub returns-in-Err-Failed-force-clause-called : goal.returns-in-Err-Failed-force-clause-called
+returns-in-Err-Failed-force-clause-called g c =
+    let k = c.requires.kept in
+    let seen = g.D.Disk.seen in
+    let failed = rw c.in-Err-Failed-force.field-0-is at (c.in-Err-Failed-force.ensures.called _ _ _ (c.in-Ok.ensures.ends _ _ _ k.behind).1) in
+    record { done = tt; failed = at_most_add 1 2 (seen c.args.disk.now) (seen c.append.new.disk) (seen c.force.new.disk) c.append.ensures.called failed }
+
+pub returns-in-Err-Failed-clause-called : goal.returns-in-Err-Failed-clause-called
+returns-in-Err-Failed-clause-called g c =
+    let seen = g.D.Disk.seen in
+    record { done = tt; failed = at_most 1 3 (seen c.args.disk.now) (seen c.append.new.disk) (omega arith) c.append.ensures.called }

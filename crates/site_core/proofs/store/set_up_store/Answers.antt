@@ -1,6 +1,7 @@
 use Rattle.std.proofs.Common.{None, arith}
 use Rattle.fed_rules.specs.Disk.{empty_disk}
 use Rattle.fed_rules.specs.declared.records.SiteRecord.TheVariants as Rec
+use Rattle.journal_disk.proofs.ForCallers.{takes_behind}
 use Rattle.site_journal.specs.Frames.{frame_has_size}
 use Rattle.actor_store.proofs.ForCallers.{from_kept}
 use Rattle.site_core.proofs.NewStore.{keeps_new}
@@ -28,3 +29,8 @@ begin_journal-requires-clause-kept g c =
 
 pub begin_journal-requires-clause-setup_fits : goal.begin_journal-requires-clause-setup_fits
 begin_journal-requires-clause-setup_fits g c = setup_fits c.args.site c.args.engine c.args.protocol c.args.items c.requires.few
+
+pub returns-clause-called : goal.returns-clause-called
+returns-clause-called g c =
+    let seen = g.D.Disk.seen in
+    takes_behind 3 (seen c.args.disk.now) (seen c.make_room.new.disk) (seen c.begin_journal.new.disk) c.begin_journal.result c.make_room.ensures.called c.begin_journal.ensures.called

@@ -3,6 +3,7 @@ use Rattle.fed_rules.specs.Disk.{Append, after_call}
 use Rattle.actor_store.specs.Store.{KeepsBehind}
 use Rattle.actor_store.proofs.EndsLaws.{counts_end}
 use Rattle.actor_store.proofs.BehindLaws.{append_fails, append_keeps}
+use Rattle.journal_disk.proofs.ForCallers.{calls_before}
 use Rattle.actor_store.proofs.store.Store.append.Goals as goal
 
 pub counted-requires-clause-kept : goal.counted-requires-clause-kept
@@ -28,3 +29,8 @@ pub returns-in-Err-clause-ends : goal.returns-in-Err-clause-ends
 returns-in-Err-clause-ends g c = λ old rules trip k.
     append_fails g.F.Format.spelling g.F.Format.reading g.F.Format.is_record g.F.Format.frame_bytes g.met.F.Format.counts_frames g.met.F.Format.spelled_is_read g.D.Disk.tells c.requires.told (g.D.Disk.seen c.args.disk.now) (g.D.Disk.seen c.note.new.disk) (stored c.args.self.now) c.note.new.self old rules trip c.args.entry (g.met.D.Disk.told_size c.args.disk.now c.requires.told)
     k c.requires.up (g.met.D.Disk.is_sound c.args.disk.now c.requires.told) c.note.ensures.kept_on c.in-Err.ensures.err c.in-Err.ensures.image_err c.note.ensures.is_record c.requires.payload
+
+pub returns-in-Ok-clause-called : goal.returns-in-Ok-clause-called
+returns-in-Ok-clause-called g c =
+    let seen = g.D.Disk.seen in
+    calls_before 1 (seen c.args.disk.now) (seen c.note.new.disk) (seen c.counted.new.disk) c.note.ensures.called c.counted.ensures.called

@@ -3,6 +3,7 @@ use Rattle.fed_rules.specs.Disk.{Sync, after_call}
 use Rattle.actor_store.specs.Store.{KeepsBehind}
 use Rattle.actor_store.proofs.EndsLaws.{counts_end}
 use Rattle.actor_store.proofs.BehindLaws.{sync_fails, sync_keeps}
+use Rattle.journal_disk.proofs.ForCallers.{calls_before}
 use Rattle.actor_store.proofs.store.Store.sync.Goals as goal
 
 pub counted-requires-clause-kept : goal.counted-requires-clause-kept
@@ -28,3 +29,8 @@ pub returns-in-Err-clause-ends : goal.returns-in-Err-clause-ends
 returns-in-Err-clause-ends g c = λ old rules trip k.
     sync_fails g.F.Format.spelling g.F.Format.reading g.F.Format.is_record g.F.Format.frame_bytes g.met.F.Format.counts_frames g.met.F.Format.spelled_is_read g.D.Disk.tells c.requires.told (g.D.Disk.seen c.args.disk.now) (g.D.Disk.seen c.sync.new.self) (stored c.args.self.now) old rules trip
     k c.requires.up c.in-Err.ensures.err c.sync.ensures.size c.sync.ensures.spare
+
+pub returns-in-Ok-clause-called : goal.returns-in-Ok-clause-called
+returns-in-Ok-clause-called g c =
+    let seen = g.D.Disk.seen in
+    calls_before 1 (seen c.args.disk.now) (seen c.sync.new.self) (seen c.counted.new.disk) c.sync.ensures.called c.counted.ensures.called

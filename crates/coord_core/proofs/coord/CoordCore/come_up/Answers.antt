@@ -6,6 +6,7 @@ use Rattle.fed_rules.specs.CoordRecords.{is_kept, recorded}
 use Rattle.protocol_table.specs.declared.known.Known.{Known}
 use Rattle.protocol_table.specs.declared.known.Restored.{Restored}
 use Rattle.protocol_table.specs.Attempts.{AreApart, restored}
+use Rattle.actor_store.specs.Store.{stored, uncounted}
 use Rattle.actor_store.proofs.ForCallers.{from_done, from_failed, from_stopped}
 use Rattle.coord_tables.specs.Starting.{BeginWith, kept_by}
 use Rattle.coord_core.proofs.Backs.{back_done, back_failed, back_records, back_stopped, up_line}
@@ -39,6 +40,7 @@ returns-in-Ok-open-clause-answered g c = λ terms past k can.
     back_done g.P.TakePolicy.policy g.D.Disk.tells old (record old { tables = c.restart.new.self; store = c.open.new.self }) (g.D.Disk.seen c.args.disk.now) (g.D.Disk.seen c.open.new.disk) terms past k c.requires.down
     n count refl refl refl c.silent.result (from_done k.stored (c.in-Ok-open.ensures.ends _ _ _ k.stored.behind)) c.in-Ok-open.ensures.standing
     (begin_serving terms past k.holds.sound k.stored.behind.written (up_line n past) refl (back_records n past) c.restart.new.self begins) c.silent.ensures.answer c.silent.ensures.sends
+    (uncounted (stored old.store)) (c.in-Ok-open.ensures.called _ _ _ k.stored.behind)
 
 pub returns-in-Err-Stopped-clause-answered : goal.returns-in-Err-Stopped-clause-answered
 returns-in-Err-Stopped-clause-answered g c = λ terms past k can.
@@ -50,8 +52,10 @@ returns-in-Err-Stopped-clause-answered g c = λ terms past k can.
     c.len-known.ensures.count ∙ ap (λ (ks : List Known). length ks) begins.known ∙ known_count terms past k.holds.sound k.stored.behind.written in
     let told = rw c.in-Err-Stopped.field-0-is at (c.in-Err-Stopped.ensures.ends _ _ _ k.stored.behind) in
     let ends = from_stopped k.stored told in
+    let stop = rw c.in-Err-Stopped.field-0-is at (c.in-Err-Stopped.ensures.called _ _ _ k.stored.behind) in
     back_stopped g.P.TakePolicy.policy g.D.Disk.tells old (record old { tables = c.restart.new.self; store = c.open.new.self }) (g.D.Disk.seen c.args.disk.now) (g.D.Disk.seen c.open.new.disk) terms past k c.requires.down
     n count refl refl refl c.silent-in-Err-Stopped.result c.in-Err-Stopped.kept ends c.in-Err-Stopped.ensures.down c.silent-in-Err-Stopped.ensures.answer c.silent-in-Err-Stopped.ensures.sends
+    (uncounted (stored old.store)) stop
 
 pub returns-clause-failed : goal.returns-clause-failed
 returns-clause-failed g c = λ terms past k can.
@@ -63,5 +67,6 @@ returns-clause-failed g c = λ terms past k can.
     c.len-known.ensures.count ∙ ap (λ (ks : List Known). length ks) begins.known ∙ known_count terms past k.holds.sound k.stored.behind.written in
     let told = rw c.in-Err-Failed.field-0-is at (c.in-Err-Failed.ensures.ends _ _ _ k.stored.behind) in
     let ends = from_failed k.stored told in
+    let few = rw c.in-Err-Failed.field-0-is at (c.in-Err-Failed.ensures.called _ _ _ k.stored.behind) in
     back_failed g.P.TakePolicy.policy g.D.Disk.tells old (record old { tables = c.restart.new.self; store = c.open.new.self }) (g.D.Disk.seen c.args.disk.now) (g.D.Disk.seen c.open.new.disk) terms past k c.requires.down
-    n count refl refl refl ends c.in-Err-Failed.ensures.down
+    n count refl refl refl ends c.in-Err-Failed.ensures.down (uncounted (stored old.store)) few

@@ -1,9 +1,11 @@
-use Rattle.std.proofs.Common.{true, sym, refl, ◌∙◌}
+use Rattle.std.proofs.Common.{◌+◌, true, sym, refl, ◌∙◌}
 use Rattle.mdb_base.proofs.ForCallers.{map_ok, map_on_err}
 use Rattle.fed_rules.specs.declared.answers.Answer.TheVariants as Say
 use Rattle.fed_rules.specs.declared.events.CoordEvent.TheVariants as Ev
 use Rattle.fed_rules.specs.Happenings.{quiet}
 use Rattle.coord_tables.proofs.ForCallers.{go_committed, go_running, quiet_calm, running_is}
+use Rattle.journal_disk.proofs.ForCallers.{none_at_most}
+use Rattle.coord_core.specs.Stands.{calls_for}
 use Rattle.coord_core.proofs.Events.{calm_steps}
 use Rattle.coord_core.proofs.Still.{serves}
 use Rattle.coord_core.proofs.coord.CoordCore.go.Goals as goal
@@ -48,4 +50,5 @@ returns-in-None-last_of-clause-answered g c = map_ok _ _ c.begin.result c.begin.
     }))
 
 pub returns-in-None-last_of-clause-memory : goal.returns-in-None-last_of-clause-memory
-returns-in-None-last_of-clause-memory g c = map_on_err _ _ c.begin.result c.begin.ensures.memory (λ each tells seen terms past k can. each tells seen terms past k)
+returns-in-None-last_of-clause-memory g c = map_on_err _ _ c.begin.result c.begin.ensures.memory (λ each tells seen terms past k can.
+    (each tells seen terms past k, none_at_most (0 + calls_for terms past (Ev.Go c.args.tid c.args.program)) seen seen refl))

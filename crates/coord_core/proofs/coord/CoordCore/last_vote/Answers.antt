@@ -1,4 +1,4 @@
-use Rattle.std.proofs.Common.{◌≡◌, true, cond, map, IsSome, Option, List, Some, None, ◌∷◌, refl, sym, ap, subst, ◌∙◌}
+use Rattle.std.proofs.Common.{◌≡◌, ◌+◌, true, cond, map, IsSome, Option, List, Some, None, ◌∷◌, refl, sym, ap, subst, ◌∙◌}
 use Rattle.mdb_base.specs.declared.names.SiteTicket.{SiteTicket}
 use Rattle.mdb_base.specs.declared.names.Tid.{Tid}
 use Rattle.presumptions.specs.declared.Decision.TheVariants as Decision_is
@@ -8,6 +8,7 @@ use Rattle.fed_rules.specs.declared.records.CoordRecord.TheVariants as Rec
 use Rattle.fed_rules.specs.CoordRecords.{commits}
 use Rattle.fed_rules.specs.CoordPast.{disk, records, trip}
 use Rattle.journal_disk.specs.Frames.{IsPayload}
+use Rattle.journal_disk.proofs.ForCallers.{none_at_most}
 use Rattle.coord_journal.specs.Spelling.{InRange, spelling}
 use Rattle.ticket_graph.specs.Graph.{AreHeld, Graph, StandsFor}
 use Rattle.frame_journal.specs.Journal.{HasRoom, written_size}
@@ -18,12 +19,14 @@ use Rattle.coord_tables.specs.declared.stages.Stage.{Stage}
 use Rattle.coord_tables.specs.declared.tables.Tables.{Tables}
 use Rattle.coord_tables.specs.Stages.{stage_tickets}
 use Rattle.coord_core.specs.Found.{was_found}
+use Rattle.coord_core.specs.Stands.{calls_for}
 use Rattle.coord_core.specs.Store.{Keeps, KeepsBehind, Store}
 use Rattle.coord_tables.specs.Trees.{Tree, committed_in, entry_of}
 use Rattle.mdb_base.specs.Names.{same_tx}
 use Rattle.mdb_base.proofs.ForCallers.{map_err, map_ok}
 use Rattle.coord_tables.specs.Voting.{vote_event}
 use Rattle.coord_tables.proofs.ForCallers.{HasDecided, commit_fits, commit_in_range, committed, cycle_aborting, lacks_decision, last_open, one_each}
+use Rattle.coord_core.proofs.CalledLaws.{fails_behind, steps_behind}
 use Rattle.coord_core.proofs.Committing.{commit_pending, core_same, stands_as}
 use Rattle.coord_core.proofs.Still.{serves, up_is}
 use Rattle.coord_core.proofs.coord.CoordCore.last_vote.Goals as goal
@@ -46,7 +49,9 @@ room_for_commit-requires-clause-fits g c =
     (commit_fits m.terms m.past c.args.site c.args.tid c.args.ticket c.args.tickets.now m.stood.holds.sound m.holds)
 
 pub returns-in_default-room_for_commit-clause-failed : goal.returns-in_default-room_for_commit-clause-failed
-returns-in_default-room_for_commit-clause-failed g c = λ terms past k l. c.room_for_commit.ensures.stands terms past k
+returns-in_default-room_for_commit-clause-failed g c = λ terms past k l.
+    let most = 0 + calls_for terms past (vote_event c.args.site c.args.tid (Some c.args.ticket)) in
+    (c.room_for_commit.ensures.stands terms past k, none_at_most most (g.D.Disk.seen c.args.disk.now) (g.D.Disk.seen c.room_for_commit.new.disk) c.room_for_commit.ensures.called)
 
 pub try_tickets-requires-clause-up : goal.try_tickets-requires-clause-up
 try_tickets-requires-clause-up g c = c.room_for_commit.ensures.standing ∙ c.requires.up
@@ -63,7 +68,11 @@ try_tickets-requires-clause-may g c =
 
 pub returns-in-Err-clause-failed : goal.returns-in-Err-clause-failed
 returns-in-Err-clause-failed g c = λ terms past k l.
-    stands_as g.P.TakePolicy.policy g.D.Disk.tells c.room_for_commit.new.self c.try_tickets.new.self (g.D.Disk.seen c.room_for_commit.new.disk) terms past c.in-Err.ensures.memory (c.room_for_commit.ensures.stands terms past k)
+    let most = 0 + calls_for terms past (vote_event c.args.site c.args.tid (Some c.args.ticket)) in
+    (
+      stands_as g.P.TakePolicy.policy g.D.Disk.tells c.room_for_commit.new.self c.try_tickets.new.self (g.D.Disk.seen c.room_for_commit.new.disk) terms past c.in-Err.ensures.memory (c.room_for_commit.ensures.stands terms past k),
+      none_at_most most (g.D.Disk.seen c.args.disk.now) (g.D.Disk.seen c.room_for_commit.new.disk) c.room_for_commit.ensures.called,
+    )
 
 pub abort-requires-clause-up : goal.abort-requires-clause-up
 abort-requires-clause-up g c =
@@ -86,9 +95,10 @@ returns-in-Ok-Cycle-clause-answered g c =
     map_ok _ _ c.abort.result c.abort.ensures.answered (λ step each terms past k l.
     let k2 = c.room_for_commit.ensures.stands terms past k in
     let cycle = rw c.in-Ok-Cycle.field-0-is at (c.in-Ok-Cycle.ensures.verdict terms past k2 (one_each terms past c.args.site c.args.tid c.args.ticket c.args.tickets.now k.holds.sound l)) in
-    each terms past (vote_event c.args.site c.args.tid (Some c.args.ticket))
+    steps_behind g.P.TakePolicy.policy g.D.Disk.tells 0 (g.D.Disk.seen c.args.disk.now) (g.D.Disk.seen c.room_for_commit.new.disk) step c.abort.new.self (g.D.Disk.seen c.abort.new.disk) terms past _ c.room_for_commit.ensures.called
+    (each terms past (vote_event c.args.site c.args.tid (Some c.args.ticket))
     (stands_as g.P.TakePolicy.policy g.D.Disk.tells c.room_for_commit.new.self c.try_tickets.new.self (g.D.Disk.seen c.room_for_commit.new.disk) terms past same k2)
-    (cycle_aborting terms past c.args.site c.args.tid c.args.ticket c.args.tickets.now k.holds.sound l c.in-Ok-Cycle.edges cycle))
+    (cycle_aborting terms past c.args.site c.args.tid c.args.ticket c.args.tickets.now k.holds.sound l c.in-Ok-Cycle.edges cycle)))
 
 pub returns-in-Ok-Cycle-clause-failed : goal.returns-in-Ok-Cycle-clause-failed
 returns-in-Ok-Cycle-clause-failed g c =
@@ -96,9 +106,11 @@ returns-in-Ok-Cycle-clause-failed g c =
     map_err _ _ c.abort.result c.abort.ensures.failed (λ why each terms past k l.
     let k2 = c.room_for_commit.ensures.stands terms past k in
     let cycle = rw c.in-Ok-Cycle.field-0-is at (c.in-Ok-Cycle.ensures.verdict terms past k2 (one_each terms past c.args.site c.args.tid c.args.ticket c.args.tickets.now k.holds.sound l)) in
-    each terms past (vote_event c.args.site c.args.tid (Some c.args.ticket))
+    fails_behind g.P.TakePolicy.policy g.D.Disk.tells (0 + calls_for terms past (vote_event c.args.site c.args.tid (Some c.args.ticket))) (g.D.Disk.seen c.args.disk.now) (g.D.Disk.seen c.room_for_commit.new.disk) why c.abort.new.self (g.D.Disk.seen c.abort.new.disk)
+    terms past (vote_event c.args.site c.args.tid (Some c.args.ticket)) c.room_for_commit.ensures.called
+    (each terms past (vote_event c.args.site c.args.tid (Some c.args.ticket))
     (stands_as g.P.TakePolicy.policy g.D.Disk.tells c.room_for_commit.new.self c.try_tickets.new.self (g.D.Disk.seen c.room_for_commit.new.disk) terms past same k2)
-    (cycle_aborting terms past c.args.site c.args.tid c.args.ticket c.args.tickets.now k.holds.sound l c.in-Ok-Cycle.edges cycle))
+    (cycle_aborting terms past c.args.site c.args.tid c.args.ticket c.args.tickets.now k.holds.sound l c.in-Ok-Cycle.edges cycle)))
 
 pub decide-forgets-requires : goal.decide-forgets-requires
 decide-forgets-requires g c =
@@ -169,7 +181,8 @@ returns-in-Ok-Added-clause-answered g c =
     let fresh = one_each terms past c.args.site c.args.tid c.args.ticket c.args.tickets.now sound l in
     let none = rw c.in-Ok-Added.field-0-is at (c.in-Ok-Added.ensures.verdict terms past k2 fresh) in
     let graph = rw c.in-Ok-Added.field-0-is at (c.in-Ok-Added.ensures.stands terms past k2 fresh) in
-    each terms past (vote_event c.args.site c.args.tid (Some c.args.ticket)) (committed terms past c.args.site c.args.tid c.args.ticket c.args.tickets.now sound l)
+    steps_behind g.P.TakePolicy.policy g.D.Disk.tells 0 (g.D.Disk.seen c.args.disk.now) (g.D.Disk.seen c.room_for_commit.new.disk) ended c.end.new.self (g.D.Disk.seen c.end.new.disk) terms past _ c.room_for_commit.ensures.called
+    (each terms past (vote_event c.args.site c.args.tid (Some c.args.ticket)) (committed terms past c.args.site c.args.tid c.args.ticket c.args.tickets.now sound l)
     (commit_pending terms past c.args.site c.args.tid c.args.ticket c.args.tickets.now sound l g.P.TakePolicy.policy g.D.Disk.tells step roomed core (g.D.Disk.seen c.room_for_commit.new.disk) (g.D.Disk.seen c.room_for_commit.new.disk)
     c.decide-forgets.result c.in-Ok-same_tickets.recorded c.in-Ok-same_tickets.ensures k2 s (up_is g.P.TakePolicy.policy g.D.Disk.tells roomed terms past k2.holds up) none
     d.forgets (ap (λ (t : Tables). t.known) kept ∙ d.known) (ap (λ (t : Tables). t.exec) kept ∙ d.exec) d.apart (ap (λ (t : Tables). t.stages.listed) kept ∙ d.stages)
@@ -179,7 +192,7 @@ returns-in-Ok-Added-clause-answered g c =
     (subst (λ (ss : List Stage). AreHeld (map stage_tickets ss) core.tables.graph) (sym (ap (λ (t : Tables). t.stages.listed) kept)) c.prune.ensures.held)
     refl sends
     (subst (λ (st : Store). Keeps (was_found past) g.D.Disk.tells (g.D.Disk.seen c.room_for_commit.new.disk) st (disk past) (trip past)) (sym (ap (λ (one : CoordCore g.row.P.Denot). one.store) others)) k2.stored)
-    (ap (λ (one : CoordCore g.row.P.Denot). one.protocols) others) (ap (λ (one : CoordCore g.row.P.Denot). one.policy) others) (ap (λ (one : CoordCore g.row.P.Denot). one.begun) others)))
+    (ap (λ (one : CoordCore g.row.P.Denot). one.protocols) others) (ap (λ (one : CoordCore g.row.P.Denot). one.policy) others) (ap (λ (one : CoordCore g.row.P.Denot). one.begun) others))))
 
 pub returns-in-Ok-Added-clause-failed : goal.returns-in-Ok-Added-clause-failed
 returns-in-Ok-Added-clause-failed g c =
@@ -210,7 +223,9 @@ returns-in-Ok-Added-clause-failed g c =
     let fresh = one_each terms past c.args.site c.args.tid c.args.ticket c.args.tickets.now sound l in
     let none = rw c.in-Ok-Added.field-0-is at (c.in-Ok-Added.ensures.verdict terms past k2 fresh) in
     let graph = rw c.in-Ok-Added.field-0-is at (c.in-Ok-Added.ensures.stands terms past k2 fresh) in
-    each terms past (vote_event c.args.site c.args.tid (Some c.args.ticket)) (committed terms past c.args.site c.args.tid c.args.ticket c.args.tickets.now sound l)
+    fails_behind g.P.TakePolicy.policy g.D.Disk.tells (0 + calls_for terms past (vote_event c.args.site c.args.tid (Some c.args.ticket))) (g.D.Disk.seen c.args.disk.now) (g.D.Disk.seen c.room_for_commit.new.disk) why c.end.new.self (g.D.Disk.seen c.end.new.disk)
+    terms past (vote_event c.args.site c.args.tid (Some c.args.ticket)) c.room_for_commit.ensures.called
+    (each terms past (vote_event c.args.site c.args.tid (Some c.args.ticket)) (committed terms past c.args.site c.args.tid c.args.ticket c.args.tickets.now sound l)
     (commit_pending terms past c.args.site c.args.tid c.args.ticket c.args.tickets.now sound l g.P.TakePolicy.policy g.D.Disk.tells step roomed core (g.D.Disk.seen c.room_for_commit.new.disk) (g.D.Disk.seen c.room_for_commit.new.disk)
     c.decide-forgets.result c.in-Ok-same_tickets.recorded c.in-Ok-same_tickets.ensures k2 s (up_is g.P.TakePolicy.policy g.D.Disk.tells roomed terms past k2.holds up) none
     d.forgets (ap (λ (t : Tables). t.known) kept ∙ d.known) (ap (λ (t : Tables). t.exec) kept ∙ d.exec) d.apart (ap (λ (t : Tables). t.stages.listed) kept ∙ d.stages)
@@ -220,4 +235,4 @@ returns-in-Ok-Added-clause-failed g c =
     (subst (λ (ss : List Stage). AreHeld (map stage_tickets ss) core.tables.graph) (sym (ap (λ (t : Tables). t.stages.listed) kept)) c.prune.ensures.held)
     refl sends
     (subst (λ (st : Store). Keeps (was_found past) g.D.Disk.tells (g.D.Disk.seen c.room_for_commit.new.disk) st (disk past) (trip past)) (sym (ap (λ (one : CoordCore g.row.P.Denot). one.store) others)) k2.stored)
-    (ap (λ (one : CoordCore g.row.P.Denot). one.protocols) others) (ap (λ (one : CoordCore g.row.P.Denot). one.policy) others) (ap (λ (one : CoordCore g.row.P.Denot). one.begun) others)))
+    (ap (λ (one : CoordCore g.row.P.Denot). one.protocols) others) (ap (λ (one : CoordCore g.row.P.Denot). one.policy) others) (ap (λ (one : CoordCore g.row.P.Denot). one.begun) others))))

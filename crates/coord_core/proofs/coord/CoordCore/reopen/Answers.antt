@@ -1,10 +1,13 @@
-use Rattle.std.proofs.Common.{List, refl, sym, ap, subst, ◌∙◌}
+use Rattle.std.proofs.Common.{List, refl, sym, ap, subst, ◌∙◌, arith}
 use Rattle.std.specs.Prelude.{◌<◌, All}
 use Rattle.mdb_base.specs.declared.names.Tid.{Tid}
 use Rattle.mdb_base.specs.Words.{Each}
 use Rattle.fed_rules.specs.declared.records.CoordRecord.{CoordRecord}
+use Rattle.journal_disk.specs.Disk.{reads}
+use Rattle.journal_disk.proofs.ForCallers.{at_most}
 use Rattle.frame_journal.specs.Journal.{records}
 use Rattle.coord_core.specs.Found.{found_disk}
+use Rattle.coord_core.proofs.CalledLaws.{takes_failed}
 use Rattle.coord_core.proofs.FoundDisks.{disk_found}
 use Rattle.coord_core.proofs.FoundPasts.{found_kept}
 use Rattle.coord_core.proofs.Opened.{attempts_small, cause_on, stands_opened}
@@ -27,6 +30,18 @@ begun_by-requires g c =
 pub returns-in_err-store-clause-cause : goal.returns-in_err-store-clause-cause
 returns-in_err-store-clause-cause g c =
     cause_on (g.D.Disk.seen c.args.disk.now).faults (g.D.Disk.seen c.found.new.disk).faults c.from_residual-in_err-store.result c.in_err-store.field-0.0 c.from_residual-in_err-store.ensures c.in_err-store.ensures.cause
+
+pub returns-in_err-store-clause-called : goal.returns-in_err-store-clause-called
+returns-in_err-store-clause-called g c =
+    let before = g.D.Disk.seen c.args.disk.now in
+    takes_failed (reads before.size) before (g.D.Disk.seen c.found.new.disk) c.from_residual-in_err-store.result c.from_residual-in_err-store.ensures.0 c.in_err-store.ensures.called.failed
+
+pub returns-in_err-begun-clause-called : goal.returns-in_err-begun-clause-called
+returns-in_err-begun-clause-called g c =
+    let before = g.D.Disk.seen c.args.disk.now in
+    let after = g.D.Disk.seen c.found.new.disk in
+    let few = at_most (reads before.size) (reads before.size) before after (omega arith) c.in_ok-store.ensures.called.done in
+    takes_failed (reads before.size) before after c.from_residual-in_err-begun.result c.from_residual-in_err-begun.ensures.0 few
 
 pub returns-clause-stands : goal.returns-clause-stands
 returns-clause-stands g c journal f =

@@ -1,6 +1,6 @@
-use Rattle.std.proofs.Common.{ℕ, Option, sym, subst, ◌∙◌}
+use Rattle.std.proofs.Common.{ℕ, ◌+◌, Option, sym, subst, ◌∙◌}
 use Rattle.mdb_base.proofs.ForCallers.{map_err, map_ok}
-use Rattle.coord_core.specs.Stands.{Fails, Steps}
+use Rattle.coord_core.specs.Stands.{Fails, Steps, calls_for}
 use Rattle.coord_tables.specs.Terms.{line_of}
 use Rattle.coord_tables.specs.Voting.{vote_event}
 use Rattle.coord_tables.proofs.ForCallers.{no_aborting, vote_open}
@@ -49,7 +49,7 @@ yes_vote-requires-clause-may g c =
 
 pub returns-in-Some-clause-answered : goal.returns-in-Some-clause-answered
 returns-in-Some-clause-answered g c = map_ok _ _ c.yes_vote.result c.yes_vote.ensures.answered (λ step each terms past k among.
-    subst (λ (y : Option ℕ). Steps g.P.TakePolicy.policy g.D.Disk.tells step c.yes_vote.new.self (g.D.Disk.seen c.yes_vote.new.disk) terms past (line_of terms past (vote_event c.args.site c.args.tid y))) (sym c.in-Some.is)
+    subst (λ (y : Option ℕ). Steps g.P.TakePolicy.policy g.D.Disk.tells 0 (g.D.Disk.seen c.args.disk.now) step c.yes_vote.new.self (g.D.Disk.seen c.yes_vote.new.disk) terms past (line_of terms past (vote_event c.args.site c.args.tid y))) (sym c.in-Some.is)
     (each terms past k (record {
       among = among;
       counts = vote_counted_as g.P.TakePolicy.policy g.D.Disk.tells c.args.self.now (g.D.Disk.seen c.args.disk.now) terms past c.args.site c.args.tid c.awaits_vote.result k c.requires.up among c.awaits_vote.ensures ∙ c.if-not-awaits_vote.false;
@@ -57,7 +57,7 @@ returns-in-Some-clause-answered g c = map_ok _ _ c.yes_vote.result c.yes_vote.en
 
 pub returns-in-Some-clause-failed : goal.returns-in-Some-clause-failed
 returns-in-Some-clause-failed g c = map_err _ _ c.yes_vote.result c.yes_vote.ensures.failed (λ why each terms past k among.
-    subst (λ (y : Option ℕ). Fails g.P.TakePolicy.policy g.D.Disk.tells why c.yes_vote.new.self (g.D.Disk.seen c.yes_vote.new.disk) terms past (vote_event c.args.site c.args.tid y)) (sym c.in-Some.is)
+    subst (λ (y : Option ℕ). Fails g.P.TakePolicy.policy g.D.Disk.tells (0 + calls_for terms past (vote_event c.args.site c.args.tid y)) (g.D.Disk.seen c.args.disk.now) why c.yes_vote.new.self (g.D.Disk.seen c.yes_vote.new.disk) terms past (vote_event c.args.site c.args.tid y)) (sym c.in-Some.is)
     (each terms past k (record {
       among = among;
       counts = vote_counted_as g.P.TakePolicy.policy g.D.Disk.tells c.args.self.now (g.D.Disk.seen c.args.disk.now) terms past c.args.site c.args.tid c.awaits_vote.result k c.requires.up among c.awaits_vote.ensures ∙ c.if-not-awaits_vote.false;

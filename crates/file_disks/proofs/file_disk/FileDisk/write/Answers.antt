@@ -13,7 +13,7 @@ loop-done-preserved g c =
     let put = c.in-Ok.ensures in
     record {
       within = within-more piece done count was.within put.within;
-      memory = record { bytes = was.memory.bytes; synced = was.memory.synced };
+      memory = record { bytes = was.memory.bytes; synced = was.memory.synced; calls = was.memory.calls };
       lost = was.lost;
       count = was.count;
       written = λ tells same.

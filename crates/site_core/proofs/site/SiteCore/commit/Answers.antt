@@ -1,4 +1,4 @@
-use Rattle.std.proofs.Common.{not, ◌∷◌, [], None, refl, ap, ◌∙◌}
+use Rattle.std.proofs.Common.{◌+◌, not, ◌∷◌, [], None, refl, ap, ◌∙◌}
 use Rattle.mdb_base.proofs.ForCallers.{map_err, map_ok, nothing_is}
 use Rattle.fed_rules.specs.declared.answers.Answer.{Answer}
 use Rattle.fed_rules.specs.declared.answers.Answer.TheVariants as Say
@@ -13,7 +13,7 @@ use Rattle.site_book.specs.Book.{closes}
 use Rattle.site_book.proofs.ForCallers.{calls_well}
 use Rattle.site_core.specs.declared.site.SiteCore.{SiteCore}
 use Rattle.site_core.specs.Sealing.{StandsSealing}
-use Rattle.site_core.specs.Stands.{Answers, Breaks, Stands}
+use Rattle.site_core.specs.Stands.{Answers, Breaks, Stands, calls_for}
 use Rattle.site_core.specs.Steps.{CanCommit, EachPast}
 use Rattle.site_core.proofs.CommitLaws.{refused_by, sealing_stands}
 use Rattle.site_core.proofs.LineLaws.{commit_idle, commit_refused, is_there, live_none, live_some}
@@ -54,7 +54,7 @@ returns-in-Ok-clause-answered g c =
     let sealed_core : SiteCore _ = record core { engine = c.seal.new.self } in
     let K : Home → SitePast → Type 0 = StandsSealing g.E.LocalEngine.stands g.D.Disk.tells tid c.in-Ok.sealed sealed_core (g.D.Disk.seen c.args.disk.now) in
     let L : Home → SitePast → Type 0 = Stands g.E.LocalEngine.stands g.D.Disk.tells core (g.D.Disk.seen c.args.disk.now) in
-    let says : SiteStep → Home → SitePast → Type 0 = λ step home past. CanCommit tid home past → Answers g.E.LocalEngine.stands g.D.Disk.tells step c.record_commit.new.self (g.D.Disk.seen c.record_commit.new.disk) home past (unless_tripped home past (of_commit home past tid)) in
+    let says : SiteStep → Home → SitePast → Type 0 = λ step home past. CanCommit tid home past → Answers g.E.LocalEngine.stands g.D.Disk.tells 0 (g.D.Disk.seen c.args.disk.now) step c.record_commit.new.self (g.D.Disk.seen c.record_commit.new.disk) home past (unless_tripped home past (of_commit home past tid)) in
     map_ok (λ step. EachPast K (says step)) (λ step. EachPast L (says step)) c.record_commit.result c.record_commit.ensures.answered
     (λ step p home past k.
     let u = is_up_at g.E.LocalEngine.stands core home past k.holds.memory c.requires.up in
@@ -70,7 +70,7 @@ returns-in-Ok-clause-failed g c =
     let sealed_core : SiteCore _ = record core { engine = c.seal.new.self } in
     let K : Home → SitePast → Type 0 = StandsSealing g.E.LocalEngine.stands g.D.Disk.tells tid c.in-Ok.sealed sealed_core (g.D.Disk.seen c.args.disk.now) in
     let L : Home → SitePast → Type 0 = Stands g.E.LocalEngine.stands g.D.Disk.tells core (g.D.Disk.seen c.args.disk.now) in
-    let fails : StepErr → Home → SitePast → Type 0 = λ why home past. CanCommit tid home past → Breaks g.E.LocalEngine.stands g.D.Disk.tells why c.record_commit.new.self (g.D.Disk.seen c.record_commit.new.disk) home past (Ev.Commit tid) in
+    let fails : StepErr → Home → SitePast → Type 0 = λ why home past. CanCommit tid home past → Breaks g.E.LocalEngine.stands g.D.Disk.tells (0 + calls_for home past (Ev.Commit tid)) (g.D.Disk.seen c.args.disk.now) why c.record_commit.new.self (g.D.Disk.seen c.record_commit.new.disk) home past (Ev.Commit tid) in
     map_err (λ why. EachPast K (fails why)) (λ why. EachPast L (fails why)) c.record_commit.result c.record_commit.ensures.failed
     (λ why p home past k.
     let u = is_up_at g.E.LocalEngine.stands core home past k.holds.memory c.requires.up in

@@ -35,10 +35,10 @@ returns-in-Prepare-clause-answered g c =
     let e = c.in-Prepare.epoch in
     let n = c.in-Prepare.n in
     let K : Home → SitePast → Type 0 = Stands g.E.LocalEngine.stands g.D.Disk.tells c.args.self.now (g.D.Disk.seen c.args.disk.now) in
-    let P : SiteStep → Type 0 = λ step. EachPast K (λ home past. CanPrepare tid home past → Answers g.E.LocalEngine.stands g.D.Disk.tells step c.prepare.new.self (g.D.Disk.seen c.prepare.new.disk) home past (unless_tripped home past (of_prepare home past tid e n))) in
-    let Q : SiteStep → Type 0 = λ step. EachPast K (λ home past. CanTakeMessage c.args.message home past → Answers g.E.LocalEngine.stands g.D.Disk.tells step c.prepare.new.self (g.D.Disk.seen c.prepare.new.disk) home past (unless_tripped home past (of_give home past c.args.message))) in
+    let P : SiteStep → Type 0 = λ step. EachPast K (λ home past. CanPrepare tid home past → Answers g.E.LocalEngine.stands g.D.Disk.tells 0 (g.D.Disk.seen c.args.disk.now) step c.prepare.new.self (g.D.Disk.seen c.prepare.new.disk) home past (unless_tripped home past (of_prepare home past tid e n))) in
+    let Q : SiteStep → Type 0 = λ step. EachPast K (λ home past. CanTakeMessage c.args.message home past → Answers g.E.LocalEngine.stands g.D.Disk.tells 0 (g.D.Disk.seen c.args.disk.now) step c.prepare.new.self (g.D.Disk.seen c.prepare.new.disk) home past (unless_tripped home past (of_give home past c.args.message))) in
     map_ok P Q c.prepare.result c.prepare.ensures.answered
-    (λ step p home past k may. answers_as g.E.LocalEngine.stands g.D.Disk.tells step c.prepare.new.self (g.D.Disk.seen c.prepare.new.disk) home past _ _
+    (λ step p home past k may. answers_as g.E.LocalEngine.stands g.D.Disk.tells 0 (g.D.Disk.seen c.args.disk.now) step c.prepare.new.self (g.D.Disk.seen c.prepare.new.disk) home past _ _
     (ap (λ (x : SiteHappening). unless_tripped home past x) (ap (of_give home past) c.in-Prepare.is ∙ give_prepare home past tid e n)) (p home past k (rw c.in-Prepare.is at may)))
 
 pub returns-in-Decide-clause-answered : goal.returns-in-Decide-clause-answered
@@ -46,8 +46,8 @@ returns-in-Decide-clause-answered g c =
     let tid = c.in-Decide.tid in
     let decision = c.in-Decide.decision in
     let K : Home → SitePast → Type 0 = Stands g.E.LocalEngine.stands g.D.Disk.tells c.args.self.now (g.D.Disk.seen c.args.disk.now) in
-    let P : SiteStep → Type 0 = λ step. EachPast K (λ home past. CanDecide tid home past → Answers g.E.LocalEngine.stands g.D.Disk.tells step c.decide.new.self (g.D.Disk.seen c.decide.new.disk) home past (unless_tripped home past (of_decide home past tid decision))) in
-    let Q : SiteStep → Type 0 = λ step. EachPast K (λ home past. CanTakeMessage c.args.message home past → Answers g.E.LocalEngine.stands g.D.Disk.tells step c.decide.new.self (g.D.Disk.seen c.decide.new.disk) home past (unless_tripped home past (of_give home past c.args.message))) in
+    let P : SiteStep → Type 0 = λ step. EachPast K (λ home past. CanDecide tid home past → Answers g.E.LocalEngine.stands g.D.Disk.tells 0 (g.D.Disk.seen c.args.disk.now) step c.decide.new.self (g.D.Disk.seen c.decide.new.disk) home past (unless_tripped home past (of_decide home past tid decision))) in
+    let Q : SiteStep → Type 0 = λ step. EachPast K (λ home past. CanTakeMessage c.args.message home past → Answers g.E.LocalEngine.stands g.D.Disk.tells 0 (g.D.Disk.seen c.args.disk.now) step c.decide.new.self (g.D.Disk.seen c.decide.new.disk) home past (unless_tripped home past (of_give home past c.args.message))) in
     map_ok P Q c.decide.result c.decide.ensures.answered
-    (λ step p home past k may. answers_as g.E.LocalEngine.stands g.D.Disk.tells step c.decide.new.self (g.D.Disk.seen c.decide.new.disk) home past _ _
+    (λ step p home past k may. answers_as g.E.LocalEngine.stands g.D.Disk.tells 0 (g.D.Disk.seen c.args.disk.now) step c.decide.new.self (g.D.Disk.seen c.decide.new.disk) home past _ _
     (ap (λ (x : SiteHappening). unless_tripped home past x) (ap (of_give home past) c.in-Decide.is ∙ give_decide home past tid decision)) (p home past k (rw c.in-Decide.is at may)))

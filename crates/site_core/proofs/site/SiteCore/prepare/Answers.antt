@@ -1,4 +1,4 @@
-use Rattle.std.proofs.Common.{◌≡◌, ℕ, Some, None, [], ◌∷◌, refl, sym, ap, ◌∙◌, subst}
+use Rattle.std.proofs.Common.{◌≡◌, ℕ, ◌+◌, Some, None, [], ◌∷◌, refl, sym, ap, ◌∙◌, subst}
 use Rattle.std.proofs.lemmas.Bool.{ne_eqb}
 use Rattle.mdb_base.specs.declared.replies.Why.{Why}
 use Rattle.mdb_base.proofs.ForCallers.{map_err, map_ok, none_left}
@@ -14,7 +14,7 @@ use Rattle.fed_rules.specs.SiteRecords.{Home, doubt_of}
 use Rattle.actor_store.specs.declared.errors.StepErr.{StepErr}
 use Rattle.site_core.specs.declared.site.SiteCore.{SiteCore}
 use Rattle.site_core.specs.Sealing.{HasFinished, StandsSealing}
-use Rattle.site_core.specs.Stands.{Answers, Breaks, Stands}
+use Rattle.site_core.specs.Stands.{Answers, Breaks, Stands, calls_for}
 use Rattle.site_core.specs.Steps.{CanPrepare, EachPast}
 use Rattle.site_core.proofs.CommitLaws.{refused_by, sealing_stands}
 use Rattle.site_core.proofs.InquiryLaws.{none_doubted}
@@ -96,8 +96,8 @@ returns-in-Ok-clause-answered g c =
     let after = g.D.Disk.seen c.record_vote.new.disk in
     let K : Home → SitePast → Type 0 = StandsSealing g.E.LocalEngine.stands g.D.Disk.tells tid c.in-Ok.sealed sealed_core (g.D.Disk.seen c.args.disk.now) in
     let L : Home → SitePast → Type 0 = Stands g.E.LocalEngine.stands g.D.Disk.tells core (g.D.Disk.seen c.args.disk.now) in
-    let says : SiteStep → Home → SitePast → Type 0 = λ step home past. CanPrepare tid home past → (n : ℕ) → HasFinished tid n home past → Answers g.E.LocalEngine.stands g.D.Disk.tells step new after home past (unless_tripped home past (of_prepare home past tid core.epoch n)) in
-    let said : SiteStep → Home → SitePast → Type 0 = λ step home past. CanPrepare tid home past → Answers g.E.LocalEngine.stands g.D.Disk.tells step new after home past (unless_tripped home past (of_prepare home past tid c.args.epoch c.args.n)) in
+    let says : SiteStep → Home → SitePast → Type 0 = λ step home past. CanPrepare tid home past → (n : ℕ) → HasFinished tid n home past → Answers g.E.LocalEngine.stands g.D.Disk.tells 0 (g.D.Disk.seen c.args.disk.now) step new after home past (unless_tripped home past (of_prepare home past tid core.epoch n)) in
+    let said : SiteStep → Home → SitePast → Type 0 = λ step home past. CanPrepare tid home past → Answers g.E.LocalEngine.stands g.D.Disk.tells 0 (g.D.Disk.seen c.args.disk.now) step new after home past (unless_tripped home past (of_prepare home past tid c.args.epoch c.args.n)) in
     map_ok (λ step. EachPast K (says step)) (λ step. EachPast L (said step)) c.record_vote.result c.record_vote.ensures.answered
     (λ step p home past k may.
     let u = is_up_at g.E.LocalEngine.stands core home past k.holds.memory c.requires.up in
@@ -106,7 +106,7 @@ returns-in-Ok-clause-answered g c =
     let l = finished_live core.book home past tid c.args.epoch c.args.n ticket u.notes f in
     let stood = c.in-Ok.ensures.sealed (epoch_start home past) (engine_lines past) u.engine in
     let here : c.args.epoch ≡ core.epoch = finished_epoch home past tid c.args.epoch c.args.n ticket f ∙ sym u.epoch in
-    answers_as g.E.LocalEngine.stands g.D.Disk.tells step new after home past _ _ (ap (λ (e : ℕ). unless_tripped home past (of_prepare home past tid e c.args.n)) here)
+    answers_as g.E.LocalEngine.stands g.D.Disk.tells 0 (g.D.Disk.seen c.args.disk.now) step new after home past _ _ (ap (λ (e : ℕ). unless_tripped home past (of_prepare home past tid e c.args.n)) here)
     (p home past (sealing_stands g.E.LocalEngine.stands g.D.Disk.tells tid c.in-Ok.sealed core c.seal.new.self (g.D.Disk.seen c.args.disk.now) home past k l stood (g.met.E.LocalEngine.right _ _ _ stood)
     (c.in-Ok.ensures.given (epoch_start home past) (engine_lines past) u.engine)) may c.args.n (finished_count home past tid c.args.epoch c.args.n ticket f)))
 
@@ -120,7 +120,7 @@ returns-in-Ok-clause-failed g c =
     let after = g.D.Disk.seen c.record_vote.new.disk in
     let K : Home → SitePast → Type 0 = StandsSealing g.E.LocalEngine.stands g.D.Disk.tells tid c.in-Ok.sealed sealed_core (g.D.Disk.seen c.args.disk.now) in
     let L : Home → SitePast → Type 0 = Stands g.E.LocalEngine.stands g.D.Disk.tells core (g.D.Disk.seen c.args.disk.now) in
-    let breaks : StepErr → ℕ → ℕ → Home → SitePast → Type 0 = λ why e n home past. Breaks g.E.LocalEngine.stands g.D.Disk.tells why new after home past (Ev.Give (To.Prepare tid e n)) in
+    let breaks : StepErr → ℕ → ℕ → Home → SitePast → Type 0 = λ why e n home past. Breaks g.E.LocalEngine.stands g.D.Disk.tells (0 + calls_for home past (Ev.Give (To.Prepare tid e n))) (g.D.Disk.seen c.args.disk.now) why new after home past (Ev.Give (To.Prepare tid e n)) in
     let fails : StepErr → Home → SitePast → Type 0 = λ why home past. CanPrepare tid home past → (n : ℕ) → HasFinished tid n home past → breaks why core.epoch n home past in
     let failed : StepErr → Home → SitePast → Type 0 = λ why home past. CanPrepare tid home past → breaks why c.args.epoch c.args.n home past in
     map_err (λ why. EachPast K (fails why)) (λ why. EachPast L (failed why)) c.record_vote.result c.record_vote.ensures.failed

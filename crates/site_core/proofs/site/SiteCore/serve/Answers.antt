@@ -48,7 +48,7 @@ returns-in-Fate-clause-answered g c = λ home past k may.
 
 pub returns-in-Trip-clause-answered : goal.returns-in-Trip-clause-answered
 returns-in-Trip-clause-answered g c = λ home past k may.
-    answers_as g.E.LocalEngine.stands g.D.Disk.tells _ _ (g.D.Disk.seen c.args.disk.now) home past _ _ (ap (site_line home past) c.in-Trip.is)
+    answers_as g.E.LocalEngine.stands g.D.Disk.tells 0 (g.D.Disk.seen c.args.disk.now) _ _ (g.D.Disk.seen c.args.disk.now) home past _ _ (ap (site_line home past) c.in-Trip.is)
     (trip_sets g.E.LocalEngine.stands g.D.Disk.tells c.args.self.now c.set_trip.new.self c.set_trip.result (g.D.Disk.seen c.args.disk.now) home past c.in-Trip.calls c.in-Trip.cut k c.set_trip.ensures.trip c.set_trip.ensures.said)
 
 pub returns-in-Back-clause-answered : goal.returns-in-Back-clause-answered
@@ -60,19 +60,19 @@ returns-in-Back-clause-answered g c = λ home past k may.
 pub returns-in-Commit-clause-answered : goal.returns-in-Commit-clause-answered
 returns-in-Commit-clause-answered g c =
     let K : Home → SitePast → Type 0 = Stands g.E.LocalEngine.stands g.D.Disk.tells c.args.self.now (g.D.Disk.seen c.args.disk.now) in
-    let P : SiteStep → Type 0 = λ step. EachPast K (λ home past. CanCommit c.in-Commit.tid home past → Answers g.E.LocalEngine.stands g.D.Disk.tells step c.commit.new.self (g.D.Disk.seen c.commit.new.disk) home past (unless_tripped home past (of_commit home past c.in-Commit.tid))) in
-    let Q : SiteStep → Type 0 = λ step. EachPast K (λ home past. CanStep c.args.event home past → Answers g.E.LocalEngine.stands g.D.Disk.tells step c.commit.new.self (g.D.Disk.seen c.commit.new.disk) home past (site_line home past c.args.event)) in
+    let P : SiteStep → Type 0 = λ step. EachPast K (λ home past. CanCommit c.in-Commit.tid home past → Answers g.E.LocalEngine.stands g.D.Disk.tells 0 (g.D.Disk.seen c.args.disk.now) step c.commit.new.self (g.D.Disk.seen c.commit.new.disk) home past (unless_tripped home past (of_commit home past c.in-Commit.tid))) in
+    let Q : SiteStep → Type 0 = λ step. EachPast K (λ home past. CanStep c.args.event home past → Answers g.E.LocalEngine.stands g.D.Disk.tells 0 (g.D.Disk.seen c.args.disk.now) step c.commit.new.self (g.D.Disk.seen c.commit.new.disk) home past (site_line home past c.args.event)) in
     map_ok P Q c.commit.result c.commit.ensures.answered
-    (λ step p home past k may. answers_as g.E.LocalEngine.stands g.D.Disk.tells step c.commit.new.self (g.D.Disk.seen c.commit.new.disk) home past _ _
+    (λ step p home past k may. answers_as g.E.LocalEngine.stands g.D.Disk.tells 0 (g.D.Disk.seen c.args.disk.now) step c.commit.new.self (g.D.Disk.seen c.commit.new.disk) home past _ _
     (ap (site_line home past) c.in-Commit.is ∙ commit_up home past c.in-Commit.tid (up_is g.E.LocalEngine.stands c.args.self.now home past k.holds.memory c.requires.up)) (p home past k (rw c.in-Commit.is at may)))
 
 pub returns-in-Check-clause-answered : goal.returns-in-Check-clause-answered
 returns-in-Check-clause-answered g c =
     let K : Home → SitePast → Type 0 = Stands g.E.LocalEngine.stands g.D.Disk.tells c.args.self.now (g.D.Disk.seen c.args.disk.now) in
-    let P : SiteStep → Type 0 = λ step. EachPast K (λ home past. Answers g.E.LocalEngine.stands g.D.Disk.tells step c.check.new.self (g.D.Disk.seen c.check.new.disk) home past (unless_tripped home past (of_check home past))) in
-    let Q : SiteStep → Type 0 = λ step. EachPast K (λ home past. CanStep c.args.event home past → Answers g.E.LocalEngine.stands g.D.Disk.tells step c.check.new.self (g.D.Disk.seen c.check.new.disk) home past (site_line home past c.args.event)) in
+    let P : SiteStep → Type 0 = λ step. EachPast K (λ home past. Answers g.E.LocalEngine.stands g.D.Disk.tells 0 (g.D.Disk.seen c.args.disk.now) step c.check.new.self (g.D.Disk.seen c.check.new.disk) home past (unless_tripped home past (of_check home past))) in
+    let Q : SiteStep → Type 0 = λ step. EachPast K (λ home past. CanStep c.args.event home past → Answers g.E.LocalEngine.stands g.D.Disk.tells 0 (g.D.Disk.seen c.args.disk.now) step c.check.new.self (g.D.Disk.seen c.check.new.disk) home past (site_line home past c.args.event)) in
     map_ok P Q c.check.result c.check.ensures.answered
-    (λ step p home past k may. answers_as g.E.LocalEngine.stands g.D.Disk.tells step c.check.new.self (g.D.Disk.seen c.check.new.disk) home past _ _
+    (λ step p home past k may. answers_as g.E.LocalEngine.stands g.D.Disk.tells 0 (g.D.Disk.seen c.args.disk.now) step c.check.new.self (g.D.Disk.seen c.check.new.disk) home past _ _
     (ap (site_line home past) c.in-Check.is ∙ check_up home past (up_is g.E.LocalEngine.stands c.args.self.now home past k.holds.memory c.requires.up)) (p home past k))
 
 pub returns-in-Ask-clause-answered : goal.returns-in-Ask-clause-answered
@@ -90,8 +90,8 @@ returns-in-Drop-clause-answered g c = λ home past k may.
 pub returns-in-Give-clause-answered : goal.returns-in-Give-clause-answered
 returns-in-Give-clause-answered g c =
     let K : Home → SitePast → Type 0 = Stands g.E.LocalEngine.stands g.D.Disk.tells c.args.self.now (g.D.Disk.seen c.args.disk.now) in
-    let P : SiteStep → Type 0 = λ step. EachPast K (λ home past. CanTakeMessage c.in-Give.message home past → Answers g.E.LocalEngine.stands g.D.Disk.tells step c.give.new.self (g.D.Disk.seen c.give.new.disk) home past (unless_tripped home past (of_give home past c.in-Give.message))) in
-    let Q : SiteStep → Type 0 = λ step. EachPast K (λ home past. CanStep c.args.event home past → Answers g.E.LocalEngine.stands g.D.Disk.tells step c.give.new.self (g.D.Disk.seen c.give.new.disk) home past (site_line home past c.args.event)) in
+    let P : SiteStep → Type 0 = λ step. EachPast K (λ home past. CanTakeMessage c.in-Give.message home past → Answers g.E.LocalEngine.stands g.D.Disk.tells 0 (g.D.Disk.seen c.args.disk.now) step c.give.new.self (g.D.Disk.seen c.give.new.disk) home past (unless_tripped home past (of_give home past c.in-Give.message))) in
+    let Q : SiteStep → Type 0 = λ step. EachPast K (λ home past. CanStep c.args.event home past → Answers g.E.LocalEngine.stands g.D.Disk.tells 0 (g.D.Disk.seen c.args.disk.now) step c.give.new.self (g.D.Disk.seen c.give.new.disk) home past (site_line home past c.args.event)) in
     map_ok P Q c.give.result c.give.ensures.answered
-    (λ step p home past k may. answers_as g.E.LocalEngine.stands g.D.Disk.tells step c.give.new.self (g.D.Disk.seen c.give.new.disk) home past _ _
+    (λ step p home past k may. answers_as g.E.LocalEngine.stands g.D.Disk.tells 0 (g.D.Disk.seen c.args.disk.now) step c.give.new.self (g.D.Disk.seen c.give.new.disk) home past _ _
     (ap (site_line home past) c.in-Give.is ∙ give_up_line home past c.in-Give.message (up_is g.E.LocalEngine.stands c.args.self.now home past k.holds.memory c.requires.up)) (p home past k (rw c.in-Give.is at may)))
