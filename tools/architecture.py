@@ -28,7 +28,7 @@ FLOORS = [
     ("actors", "Actors", "one event, one answer; each touches its own parts and its own disk",
      "local_dbms site_core global_manager coord_core"),
     ("engines", "Engines", "one rule of concurrency control each; touches the rows and runs of one site",
-     "any_engine locking_engine timestamp_engine validation_engine multiversion_engine access_ages run_book engine_contract"),
+     "any_engine locking_engine timestamp_engine validation_engine multiversion_engine run_book engine_contract"),
     ("parts", "Parts", "one data structure each; touches its own fields",
      "site_book site_tables ticket_item prepared_state journal_sums usable_journals found_disks coord_tables protocol_table global_exec ticket_graph conservative_take "
      "audit_lines order_merge serial_machine trace_merge scripted_link client_drivers"),
@@ -40,8 +40,8 @@ FLOORS = [
      "line_laws replay_laws made_laws host_laws left_disks"),
     ("theorems", "Theorems", "touch definitions alone",
      "audit_laws resume_laws found_laws disk_laws progress_laws closing_laws refuted_rules sum_laws federation_laws world_laws commit_laws coord_laws "
-     "site_history engine_laws rules_laws"),
-    ("rules", "Rules", "plain types and definitions; no code",
+     "site_history engine_laws"),
+    ("rules", "Rules", "plain types, definitions, and laws on them; no code",
      "audit_rules fed_rules"),
     ("ground", "Ground", "names, the tables of the protocols, chains and merges; touches nothing",
      "order_laws presumptions mdb_base"),

@@ -20,10 +20,10 @@ use Rattle.fed_rules.specs.Sessions.{Session}
 use Rattle.fed_rules.specs.SitePast.{SitePast, engine_lines, epoch_start, live, live_one}
 use Rattle.fed_rules.specs.SiteRecords.{Home, Held, doubt_of, doubts, kept_held, start_of}
 use Rattle.fed_rules.specs.Story.{past_of, story_in, story_of}
-use Rattle.engine_laws.proofs.ForCallers.{attempts_have, tid_is}
-use Rattle.rules_laws.proofs.ForCallers.{home-again, rising_one}
+use Rattle.engine_laws.proofs.ForCallers.{attempts_have, once_doubts, tid_is}
+use Rattle.fed_rules.proofs.ForCallers.{home-again, rising_one}
 use Rattle.site_history.specs.Stories.{StoriesHaveRightLines}
-use Rattle.site_history.proofs.ForCallers.{once_doubts, restored_doubt, restored_held}
+use Rattle.site_history.proofs.ForCallers.{restored_doubt, restored_held}
 use Rattle.site_book.specs.Listing.{AreRising, Lists}
 use Rattle.closing_laws.specs.Runs.{SitesBeginOnce}
 use Rattle.closing_laws.proofs.ForCallers.{none_live_at, once_distinct, restored_some}

@@ -25,8 +25,9 @@ use Rattle.fed_rules.specs.SitePast.{SiteHappening, SitePast, attempts_of, begin
 use Rattle.fed_rules.specs.SiteRecords.{Home, doubts, kept_held, start_of}
 use Rattle.fed_rules.specs.Story.{past_of, sent_to, story_of}
 use Rattle.engine_laws.specs.Laws.{EachOnce}
-use Rattle.rules_laws.proofs.ForCallers.{attempts_grow, home-again}
-use Rattle.site_history.proofs.ForCallers.{IsKept, IsSortedRecord, engine_lines-next, epoch_start-next, local_is, no_local_doubt, once_doubts, pasts_led, restored_doubt, restored_held, run_of-next, sorted_past, sorted_story}
+use Rattle.fed_rules.proofs.ForCallers.{attempts_grow, home-again}
+use Rattle.engine_laws.proofs.ForCallers.{once_doubts}
+use Rattle.site_history.proofs.ForCallers.{IsKept, IsSortedRecord, engine_lines-next, epoch_start-next, local_is, no_local_doubt, pasts_led, restored_doubt, restored_held, run_of-next, sorted_past, sorted_story}
 use Rattle.site_history.specs.Led.{Allows, AllAllow, IsAsked, IsLed}
 use Rattle.site_history.specs.Events.{AreSorted, IsSorted}
 use Rattle.site_history.specs.Stories.{is_local}

@@ -29,13 +29,13 @@ use Rattle.fed_rules.specs.Runs.{EngineLine, Aborts, Run, changed, run_at, tid_o
 use Rattle.fed_rules.specs.Site.{site_line, answered, of_give, of_abort, of_drop, of_ask, with_lines, settling_line, settles, unheld, of_decide}
 use Rattle.fed_rules.specs.SitePast.{SiteHappening, SitePast, disk, records, epoch_start, engine_lines, live_one, live, trip_of, is_local, begins_tx}
 use Rattle.fed_rules.specs.SiteRecords.{Home, Held, site_frame, doubt_of}
-use Rattle.rules_laws.specs.Durable.{IsFirm}
+use Rattle.fed_rules.specs.Durable.{IsFirm}
 use Rattle.coord_laws.specs.Records.{IsEnd}
 use Rattle.coord_laws.proofs.ForCallers.{Decides, Forgets, Restarts, Same, Starts, Stood, Stopped, Through, coord_lines, is_undecided}
 use Rattle.federation_laws.proofs.ForCallers.{live-next}
 use Rattle.fed_rules.specs.Policies.{Policy}
 use Rattle.engine_laws.proofs.ForCallers.{abort_ends}
-use Rattle.rules_laws.proofs.ForCallers.{IsNoGo}
+use Rattle.fed_rules.proofs.ForCallers.{IsNoGo}
 use Rattle.commit_laws.proofs.ForCallers.{settles-records, settling-ends}
 
 -- an actor is up, and no trip is armed

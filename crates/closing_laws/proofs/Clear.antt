@@ -25,7 +25,7 @@ use Rattle.commit_laws.proofs.ForCallers.{home-again, its-site}
 use Rattle.engine_laws.proofs.ForCallers.{abort_ends, attempts_have, tid_is}
 use Rattle.site_history.specs.Stories.{StoriesHaveRightLines}
 use Rattle.closing_laws.proofs.OpenRuns.{in_open}
-use Rattle.rules_laws.proofs.ForCallers.{rising_in}
+use Rattle.fed_rules.proofs.ForCallers.{rising_in}
 use Rattle.site_history.proofs.ForCallers.{live_is}
 use Rattle.federation_laws.proofs.ForCallers.{declared-in, local_home-declared}
 use Rattle.closing_laws.proofs.Calm.{aborts_here, drops, ended_run}

@@ -28,7 +28,7 @@ use Rattle.closing_laws.proofs.Onward.{IsCalm, IsGentle, gentle_nowhere, onward_
 use Rattle.fed_rules.specs.declared.messages.Due.{Due}
 use Rattle.fed_rules.specs.CoordCommands.{attempt_request}
 use Rattle.fed_rules.specs.Requests.{Submits, Declines}
-use Rattle.rules_laws.proofs.ForCallers.{IsNoGo}
+use Rattle.fed_rules.proofs.ForCallers.{IsNoGo}
 
 -- branches of a rule
 plain_when : (t : Bool) (a b : CoordHappening) → IsPlain a.answer → IsPlain b.answer → IsPlain (when t a b).answer

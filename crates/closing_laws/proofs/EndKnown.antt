@@ -28,7 +28,7 @@ use Rattle.fed_rules.specs.Scenarios.{protocols, policy}
 use Rattle.fed_rules.specs.Sessions.{Session}
 use Rattle.fed_rules.specs.Story.{Story, AtCoordinator, coord_past, with_coordinator, sent_to, sends_to, on_attempt, happens, places_of, story_in, coord_requested}
 use Rattle.commit_laws.proofs.ForCallers.{CoordinatorFits, member_of, nowhere, session_sound}
-use Rattle.rules_laws.proofs.ForCallers.{rising_in}
+use Rattle.fed_rules.proofs.ForCallers.{rising_in}
 use Rattle.closing_laws.proofs.Calm.{agains}
 use Rattle.closing_laws.proofs.CoordTurns.{gentle_again, hears_of}
 use Rattle.coord_laws.proofs.ForCallers.{begun_in, calm_standing, is_undecided}

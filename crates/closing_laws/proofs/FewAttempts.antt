@@ -31,8 +31,8 @@ use Rattle.fed_rules.specs.SitePast as Site
 use Rattle.fed_rules.specs.SitePast.{SiteHappening, SitePast, begins_tx, engine_lines, epoch_start, live_one, records}
 use Rattle.fed_rules.specs.SiteRecords.{Home, Held, doubt_of, doubts, prepared_tids}
 use Rattle.fed_rules.specs.Story.{Story, Happened, AtSite, AtCoordinator, Nowhere, coord_past, coord_requested, happens, on_go, past_of, story_of, with_coordinator}
-use Rattle.rules_laws.specs.Lines.{CoordCause, IsLine}
-use Rattle.rules_laws.proofs.ForCallers.{each_distinct, line_is}
+use Rattle.fed_rules.specs.Lines.{CoordCause, IsLine}
+use Rattle.fed_rules.proofs.ForCallers.{each_distinct, line_is}
 use Rattle.coord_laws.proofs.ForCallers.{begin_in_order, begin_once, begins_go, begins_some, coord_lines}
 use Rattle.commit_laws.proofs.ForCallers.{agreed, coord-sound, held-prepared, home-again, next-turn, nowhere, story_goes_on}
 use Rattle.site_history.specs.Led.{IsAsked, IsLed}

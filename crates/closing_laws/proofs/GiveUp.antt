@@ -11,7 +11,7 @@ use Rattle.fed_rules.specs.CoordPast.{standing, begun_tids, is_open, known_decis
 use Rattle.fed_rules.specs.Sessions.{Session}
 use Rattle.fed_rules.specs.Story.{Story, coord_past, happens, story_in}
 use Rattle.commit_laws.proofs.ForCallers.{CoordinatorFits, member_of, nowhere, session_sound}
-use Rattle.rules_laws.proofs.ForCallers.{rising_in}
+use Rattle.fed_rules.proofs.ForCallers.{rising_in}
 use Rattle.closing_laws.proofs.CoordTurns.{gentle_late, late_decides}
 use Rattle.coord_laws.proofs.ForCallers.{begun_in, is_undecided}
 use Rattle.closing_laws.proofs.Onward.{IsCalm, Onward, onward_here, onward_on, onward_next}

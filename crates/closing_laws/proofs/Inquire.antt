@@ -31,7 +31,7 @@ use Rattle.fed_rules.specs.SitePast.{SiteHappening, SitePast, records, live}
 use Rattle.fed_rules.specs.SiteRecords.{Home, Held, doubt_of, prepared_tids, doubts}
 use Rattle.fed_rules.specs.Story.{Story, AtSite, AtCoordinator, past_of, coord_past, with_site, sent_to, sends_to, sent_from, happens, places_of, story_in}
 use Rattle.commit_laws.proofs.ForCallers.{CoordinatorFits, home-again, its-site, settles-records}
-use Rattle.rules_laws.proofs.ForCallers.{in_each, in_sorted, rising_in}
+use Rattle.fed_rules.proofs.ForCallers.{in_each, in_sorted, rising_in}
 use Rattle.closing_laws.proofs.Calm.{asks, takes}
 use Rattle.closing_laws.proofs.CoordTurns.{takes_there, gentle_inquiry}
 use Rattle.federation_laws.proofs.ForCallers.{declared-in}

@@ -26,8 +26,8 @@ use Rattle.fed_rules.specs.Story.{Story, Happened, AtSite, AtCoordinator, Nowher
 use Rattle.commit_laws.proofs.ForCallers.{home-again}
 use Rattle.closing_laws.proofs.Calm.{IsReady, ready_next, gives, aborts_here, drops, asks, IsMild, decide_mild, abort_mild, drop_mild, ask_mild, IsCoordMild}
 use Rattle.coord_laws.proofs.ForCallers.{is_undecided}
-use Rattle.rules_laws.specs.Lines.{IsLine}
-use Rattle.rules_laws.proofs.ForCallers.{line_is}
+use Rattle.fed_rules.specs.Lines.{IsLine}
+use Rattle.fed_rules.proofs.ForCallers.{line_is}
 
 -- every actor is up, and no trip is armed
 pub record IsCalm (story : Story) : Type 0 where

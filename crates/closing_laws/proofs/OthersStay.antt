@@ -33,8 +33,8 @@ use Rattle.fed_rules.specs.Site.{site_line}
 use Rattle.fed_rules.specs.SitePast.{SiteHappening, SitePast, attempts_of, begins_tx, disk, records}
 use Rattle.fed_rules.specs.SiteRecords.{Home, local_of}
 use Rattle.fed_rules.specs.Story.{Story, Happened, AtSite, AtCoordinator, Nowhere, coord_past, happens, past_of, story_of}
-use Rattle.rules_laws.specs.Lines.{CoordCause, IsLine, IsCoordLine, SiteCause}
-use Rattle.rules_laws.proofs.ForCallers.{cut_old, cut_stays, line_is}
+use Rattle.fed_rules.specs.Lines.{CoordCause, IsLine, IsCoordLine, SiteCause}
+use Rattle.fed_rules.proofs.ForCallers.{cut_old, cut_stays, line_is}
 use Rattle.coord_laws.specs.Records.{IsCommit, IsEnd}
 use Rattle.coord_laws.proofs.ForCallers.{Decides, Forgets, Kept as Coord_kept, Line, Restarts, Same, Starts, Stood, Stopped, Through, WroteAll, begins_go, coord_lines, end_commit, is_undecided, kept_stays}
 use Rattle.commit_laws.specs.Records.{IsLooseEnded}

@@ -37,7 +37,7 @@ use Rattle.fed_rules.specs.Site.{site_line, site_past, answered, of_begin, reply
 use Rattle.fed_rules.specs.SitePast.{SiteHappening, SitePast, disk, records, trip, epoch_start, engine_lines, live, live_of_tx, attempts_of}
 use Rattle.fed_rules.specs.SiteRecords.{Home, site_frame, start_of, last_ticket, local_of, doubt_of}
 use Rattle.fed_rules.specs.Story.{Story, Happened, AtSite, AtCoordinator, Nowhere, past_of, coord_past, with_coordinator, sent_from, sends_from, happens, story_of}
-use Rattle.rules_laws.specs.Pasts.{PastsAreMadeByEvents}
+use Rattle.fed_rules.specs.Pasts.{PastsAreMadeByEvents}
 use Rattle.site_history.specs.Records.{IsPrepared}
 use Rattle.engine_laws.proofs.ForCallers.{published_at, published_grows}
 use Rattle.coord_laws.proofs.ForCallers.{IsLastVote, Writes, among_commit, commits_whole}

@@ -16,7 +16,7 @@ use Rattle.fed_rules.specs.SiteRecords.{Home, Held, doubt_of, prepared_tids, by_
 use Rattle.fed_rules.specs.Story.{Story, coord_past, past_of, story_of}
 use Rattle.commit_laws.proofs.ForCallers.{coord-sound, home-again, nowhere}
 use Rattle.site_history.specs.Stories.{StoriesHaveRightLines}
-use Rattle.rules_laws.proofs.ForCallers.{rising_in}
+use Rattle.fed_rules.proofs.ForCallers.{rising_in}
 use Rattle.closing_laws.specs.AtRest.{IsAtRest}
 use Rattle.closing_laws.proofs.Clear.{live_listed}
 use Rattle.coord_laws.proofs.ForCallers.{begun_in, is_undecided}

@@ -28,8 +28,8 @@ use Rattle.fed_rules.specs.Site.{answered, of_ask, site_line}
 use Rattle.fed_rules.specs.SitePast.{SiteHappening, SitePast, disk, records, trip}
 use Rattle.fed_rules.specs.SiteRecords.{Held, Home, doubt_of, site_frame}
 use Rattle.fed_rules.specs.Story.{Story, Happened, AtSite, AtCoordinator, Nowhere, coord_past, happens, past_of, place_from, places_of, sent_from, sent_to, story_in}
-use Rattle.rules_laws.specs.Lines.{CoordCause, IsLine}
-use Rattle.rules_laws.proofs.ForCallers.{line_is}
+use Rattle.fed_rules.specs.Lines.{CoordCause, IsLine}
+use Rattle.fed_rules.proofs.ForCallers.{line_is}
 use Rattle.commit_laws.proofs.ForCallers.{CoordinatorFits, session_sound}
 use Rattle.coord_laws.proofs.ForCallers.{any_member}
 use Rattle.closing_laws.proofs.CoordTurns.{takes_there}

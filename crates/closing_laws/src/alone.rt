@@ -3,7 +3,7 @@ ghost use Rattle.closing_laws.specs.Alone.{GlobalsCommitAlone, LocalsCommitAlone
 ghost use Rattle.closing_laws.specs.Bound.{FinishingIsShort};
 ghost use Rattle.closing_laws.specs.Finished.{FinishedSessionsCommit};
 
-use rules_laws::pasts_are_made_by_events;
+use fed_rules::pasts_are_made_by_events;
 use site_history::{each_site_of_a_story_is_serial, stories_have_right_lines};
 
 /// At rest, a local transaction without a commit, of which not all attempts were begun, commits when it is run alone, and the session is

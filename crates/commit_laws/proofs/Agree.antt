@@ -23,7 +23,7 @@ use Rattle.fed_rules.specs.Scenarios.{protocols}
 use Rattle.fed_rules.specs.SitePast.{SitePast, disk, records, epoch, is_closed}
 use Rattle.fed_rules.specs.SiteRecords.{Home, site_frame}
 use Rattle.fed_rules.specs.Story.{Story, coord_past, past_of, sent_to, sent_from}
-use Rattle.rules_laws.specs.Durable.{IsFirm}
+use Rattle.fed_rules.specs.Durable.{IsFirm}
 use Rattle.commit_laws.specs.Records.{IsPrepared, IsEnded, IsLooseEnded}
 use Rattle.commit_laws.specs.Seals.{seals}
 use Rattle.commit_laws.proofs.Links.{member_of, IsGlobal}

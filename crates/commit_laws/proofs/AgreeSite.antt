@@ -28,7 +28,7 @@ use Rattle.fed_rules.specs.SiteRecords.{Home, doubt_of, epoch_of}
 use Rattle.commit_laws.specs.Records.{IsPrepared, IsEnded, IsLooseEnded}
 use Rattle.commit_laws.specs.Seals.{seals}
 use Rattle.commit_laws.proofs.Agree.{IsGot, IsOver, HasSealed, Agree}
-use Rattle.rules_laws.proofs.ForCallers.{cut_old, cut_stays}
+use Rattle.fed_rules.proofs.ForCallers.{cut_old, cut_stays}
 use Rattle.commit_laws.proofs.Links.{IsGlobal}
 use Rattle.commit_laws.proofs.SiteFacts.{IsSealing, IsSettling, IsAcking, Wrote, Says, Settled, NotBegun}
 use Rattle.commit_laws.proofs.SiteLines.{Kept, Line}

@@ -16,7 +16,7 @@ use Rattle.fed_rules.specs.Site.{site_line}
 use Rattle.fed_rules.specs.SitePast.{set_up_calls}
 use Rattle.fed_rules.specs.SiteRecords.{Home, site_frame}
 use Rattle.fed_rules.specs.Story.{Story, Happened, AtSite, AtCoordinator, Nowhere, past_of, coord_past, with_site, with_coordinator, sent_to, sent_from, sends_to, sends_from, happens, story_of}
-use Rattle.rules_laws.specs.Durable.{IsFirm}
+use Rattle.fed_rules.specs.Durable.{IsFirm}
 use Rattle.commit_laws.specs.Records.{IsLooseEnded}
 use Rattle.commit_laws.proofs.Links.{story_goes_on, numbered, member_of, IsGlobal, SiteCame, CoordCame, Linked, linked, linked-here, not-both}
 use Rattle.coord_laws.proofs.ForCallers.{CoordSound, IsBegun, Turn, any_member, begins_go, coord_lines, past_sound}
@@ -25,7 +25,7 @@ use Rattle.commit_laws.proofs.Agree.{Agree, Agrees}
 use Rattle.commit_laws.proofs.AgreeCoord.{CoordNext, coord-next}
 use Rattle.commit_laws.proofs.AgreeSite.{SiteTurn, site-turn}
 use Rattle.commit_laws.proofs.Declared.{is-declared}
-use Rattle.rules_laws.proofs.ForCallers.{firm_quiet}
+use Rattle.fed_rules.proofs.ForCallers.{firm_quiet}
 use Rattle.commit_laws.proofs.SiteFacts.{NotBegun}
 use Rattle.commit_laws.proofs.SiteLines.{site-lines}
 

@@ -15,7 +15,7 @@ use Rattle.fed_rules.specs.Coord.{protocol_of}
 use Rattle.fed_rules.specs.Scenarios.{home_in, home_of, items_of, protocols_in, protocols}
 use Rattle.fed_rules.specs.SiteRecords.{Home}
 use Rattle.fed_rules.specs.Plans.{one_site, IsScenario, all_differ}
-use Rattle.rules_laws.proofs.ForCallers.{MembersRise}
+use Rattle.fed_rules.proofs.ForCallers.{MembersRise}
 
 abbrev pub by_site : Participant → Participant → Bool
 by_site a b = nat_lt a.site.0 b.site.0

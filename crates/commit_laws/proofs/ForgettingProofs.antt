@@ -32,7 +32,7 @@ use Rattle.commit_laws.proofs.Agreed.{agreed, turn, coord-sound}
 use Rattle.commit_laws.proofs.Links.{member_of, IsNext, linked, home-again, its-site}
 use Rattle.coord_laws.proofs.ForCallers.{Decides, Forgets, IsOpen, Restarts, Same, Starts, Stood, Stopped, Through, Turn, all_missing, decided_outcome, is_undecided, named_stays, same_outcome, uncommitted_of}
 use Rattle.commit_laws.proofs.Declared.{is-declared}
-use Rattle.rules_laws.proofs.ForCallers.{appended}
+use Rattle.fed_rules.proofs.ForCallers.{appended}
 use Rattle.order_laws.proofs.ForCallers.{those-in, those_same}
 use Rattle.commit_laws.proofs.PreparedLaws.{nowhere}
 use Rattle.commit_laws.proofs.SealProofs.{over-free}

@@ -31,7 +31,7 @@ use Rattle.commit_laws.proofs.Agreed.{agreed, at-site}
 use Rattle.commit_laws.proofs.Links.{IsNext, linked, linked-here}
 use Rattle.commit_laws.proofs.SealProofs.{Next, next-line, sealed-twice}
 use Rattle.commit_laws.proofs.SiteFacts.{IsSealing, Shut}
-use Rattle.rules_laws.proofs.ForCallers.{home-again, its-site}
+use Rattle.fed_rules.proofs.ForCallers.{home-again, its-site}
 use Rattle.commit_laws.proofs.Trips.{HasCalls, trips_have_calls, uncalled}
 
 -- the event is a decision on the attempt

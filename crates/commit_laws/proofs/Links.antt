@@ -28,9 +28,9 @@ use Rattle.fed_rules.specs.Story.{Story, Happened, AtSite, AtCoordinator, Nowher
 use Rattle.coord_laws.specs.Pasts.{IsGoingOn, IsNumbered, IsMadeByEvents}
 use Rattle.coord_laws.proofs.ForCallers.{going_on}
 use Rattle.commit_laws.specs.Pasts.{CoordinatorsAreMadeByEvents}
-use Rattle.rules_laws.specs.Lines.{SiteCause, CoordCause, IsLine}
-pub use Rattle.rules_laws.proofs.ForCallers.{home-again, its-site}
-use Rattle.rules_laws.proofs.ForCallers.{line_is}
+use Rattle.fed_rules.specs.Lines.{SiteCause, CoordCause, IsLine}
+pub use Rattle.fed_rules.proofs.ForCallers.{home-again, its-site}
+use Rattle.fed_rules.proofs.ForCallers.{line_is}
 
 -- the attempt is one of a global transaction
 abbrev pub IsGlobal : Scenario → Tid → Type 0

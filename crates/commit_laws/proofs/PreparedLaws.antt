@@ -30,7 +30,7 @@ use Rattle.fed_rules.specs.Scenarios.{home_in, home_of, items_of, protocols_in, 
 use Rattle.fed_rules.specs.SitePast.{disk, records}
 use Rattle.fed_rules.specs.SiteRecords.{Home, site_frame}
 use Rattle.fed_rules.specs.Story.{Happened, AtSite, AtCoordinator, Nowhere, coord_past, past_of, with_coordinator, happens, story_of}
-use Rattle.rules_laws.specs.Durable.{IsSafe, IsFirm}
+use Rattle.fed_rules.specs.Durable.{IsSafe, IsFirm}
 use Rattle.commit_laws.specs.Outcomes.{coordinator_keeps}
 use Rattle.commit_laws.specs.Prepared.{IsPreparedForEver, IsCommitAnswer, DecidesCommit, CommitDecisionsFindAllPrepared, CommitRecordsFindAllPrepared}
 use Rattle.commit_laws.specs.Records.{IsPrepared, IsLooseEnded}
@@ -39,7 +39,7 @@ use Rattle.coord_laws.specs.Records.{IsCommit}
 use Rattle.commit_laws.proofs.Agreed.{agreed, turn, coord-sound}
 use Rattle.coord_laws.proofs.ForCallers.{Committed, IsYes, Turn, end_commit, kept_stays}
 use Rattle.commit_laws.proofs.Declared.{is-declared, by_site}
-use Rattle.rules_laws.proofs.ForCallers.{safe_or_loose}
+use Rattle.fed_rules.proofs.ForCallers.{safe_or_loose}
 use Rattle.commit_laws.proofs.SiteLists.{loose-prepared}
 
 yes-ticket : (g : Tid) (site : SiteId) (past : CoordPast) → Among (λ x. IsYes g site x.event) past

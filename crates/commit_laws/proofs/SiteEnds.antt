@@ -25,7 +25,7 @@ use Rattle.commit_laws.specs.Records.{IsEnded, IsLooseEnded}
 use Rattle.commit_laws.specs.Seals.{appends_prepared}
 use Rattle.commit_laws.proofs.SiteFacts.{WroteOne, IsSettling, IsAcking, Says, Shut, Step}
 use Rattle.commit_laws.proofs.SiteShut.{other-line, this-line, shut-on, restored-sealed}
-use Rattle.rules_laws.proofs.ForCallers.{IsQuiet, appended}
+use Rattle.fed_rules.proofs.ForCallers.{IsQuiet, appended}
 use Rattle.commit_laws.proofs.SiteRules.{step-given, quietly, by-begin, by-act, by-commit, by-abort, by-fate, by-drop, by-ask, step-when}
 use Rattle.commit_laws.proofs.SiteWork.{by-work, by-take, by-prepare}
 use Rattle.order_laws.proofs.ForCallers.{of_same}

@@ -21,7 +21,7 @@ use Rattle.fed_rules.specs.SitePast.{SiteHappening, SitePast, records, epoch, li
 use Rattle.fed_rules.specs.SiteRecords.{Home, Held, doubt_of}
 use Rattle.commit_laws.specs.Records.{IsPrepared, IsEnded, IsLooseEnded}
 use Rattle.commit_laws.specs.Seals.{seals}
-use Rattle.rules_laws.proofs.ForCallers.{IsQuiet, appended}
+use Rattle.fed_rules.proofs.ForCallers.{IsQuiet, appended}
 
 -- the line seals the attempt: the site is up and not in doubt of it, its run is live, and the Prepare names the site's epoch
 pub record IsSealing (home : Home) (g : Tid) (past : SitePast) (event : SiteEvent) (e : ℕ) : Type 0 where

@@ -12,10 +12,10 @@ use Rattle.fed_rules.specs.Happenings.{Trip, comes_up, is_down, quiet, stopped, 
 use Rattle.fed_rules.specs.Site.{site_line, answered, of_back}
 use Rattle.fed_rules.specs.SitePast.{SiteHappening, SitePast, disk, records, epoch, trip}
 use Rattle.fed_rules.specs.SiteRecords.{Home, site_frame}
-use Rattle.rules_laws.specs.Durable.{IsFirm}
+use Rattle.fed_rules.specs.Durable.{IsFirm}
 use Rattle.commit_laws.specs.Records.{IsPrepared, IsLooseEnded}
 use Rattle.commit_laws.specs.Seals.{appends_prepared, seals}
-use Rattle.rules_laws.proofs.ForCallers.{IsCut, Keeps, appended, left_by_line, left_by_stop, quiet_plain}
+use Rattle.fed_rules.proofs.ForCallers.{IsCut, Keeps, appended, left_by_line, left_by_stop, quiet_plain}
 use Rattle.commit_laws.proofs.SiteFacts.{IsSealing, Wrote, WroteOne, Says, Settled, NotBegun, Shut, Step}
 use Rattle.commit_laws.proofs.SiteShut.{restored-sealed}
 use Rattle.commit_laws.proofs.SiteEnds.{by-answered, by-back}

@@ -16,8 +16,8 @@ use Rattle.fed_rules.specs.Site.{answered, of_back, site_line}
 use Rattle.fed_rules.specs.SitePast.{SiteHappening, SitePast, disk, trip, trip_of}
 use Rattle.fed_rules.specs.SiteRecords.{Home, site_frame}
 use Rattle.fed_rules.specs.Story.{Happened, AtSite, AtCoordinator, Nowhere, happens, past_of, story_of, with_site}
-use Rattle.rules_laws.specs.Lines.{IsLine}
-use Rattle.rules_laws.proofs.ForCallers.{line_is}
+use Rattle.fed_rules.specs.Lines.{IsLine}
+use Rattle.fed_rules.proofs.ForCallers.{line_is}
 
 -- the trip in force has calls left
 abbrev pub HasCalls : Option Trip → Type 0

@@ -15,7 +15,7 @@ use Rattle.fed_rules.specs.Scenarios.{home_of, protocols}
 use Rattle.fed_rules.specs.SitePast.{SitePast, disk}
 use Rattle.fed_rules.specs.SiteRecords.{Home, site_frame}
 use Rattle.fed_rules.specs.Story.{coord_past, past_of, story_of}
-use Rattle.rules_laws.specs.Durable.{IsSafe}
+use Rattle.fed_rules.specs.Durable.{IsSafe}
 use Rattle.commit_laws.specs.Outcomes.{coordinator_keeps}
 use Rattle.commit_laws.specs.Records.{IsPrepared}
 use Rattle.coord_laws.specs.Records.{IsCommit}

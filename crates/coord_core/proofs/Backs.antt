@@ -14,7 +14,7 @@ use Rattle.fed_rules.specs.CoordPast.{CoordHappening, CoordPast, attempts_of}
 use Rattle.fed_rules.specs.CoordPast as Past
 use Rattle.fed_rules.specs.CoordRecords.{coord_frame, is_kept, recorded}
 use Rattle.fed_rules.specs.Policies.{Policy}
-use Rattle.rules_laws.proofs.ForCallers.{none_lost, whole_all}
+use Rattle.fed_rules.proofs.ForCallers.{none_lost, whole_all}
 use Rattle.coord_laws.proofs.ForCallers.{any_member, past_sound}
 use Rattle.journal_disk.specs.Disk.{HasCalled, HasCalledAtMost, Seen}
 use Rattle.journal_rules.specs.Calls.{can_fail}

@@ -17,7 +17,7 @@ use Rattle.fed_rules.specs.Found.{Journal}
 use Rattle.fed_rules.specs.Policies.{Policy}
 use Rattle.fed_rules.specs.Reopened.{commit_read, coord_reads_as, coord_sum_read, end_read, initiation_read, is_open_in, long_coord, oldest}
 use Rattle.fed_rules.specs.Usable.{IsUsableCoordinator}
-use Rattle.rules_laws.proofs.ForCallers.{expanded, opened_length, opened_lost, opened_records, opened_synced, opened_trimmed, torn_lost}
+use Rattle.fed_rules.proofs.ForCallers.{expanded, opened_length, opened_lost, opened_records, opened_synced, opened_trimmed, torn_lost}
 use Rattle.coord_laws.proofs.ForCallers.{no_length, nothing_read, torn_short}
 use Rattle.journal_disk.specs.Disk.{Image, Seen}
 use Rattle.journal_disk.specs.Frames.{IsPayload}

@@ -28,7 +28,7 @@ use Rattle.fed_rules.specs.Disk as DiskWords
 use Rattle.fed_rules.specs.Found.{Journal}
 use Rattle.fed_rules.specs.Policies.{Policy}
 use Rattle.fed_rules.specs.Reopened.{coord_read, coord_reads_as, long_coord, opened_coordinator}
-use Rattle.rules_laws.proofs.ForCallers.{opened_journal}
+use Rattle.fed_rules.proofs.ForCallers.{opened_journal}
 use Rattle.coord_laws.specs.FoundCoordinators.{MembersRise, RiseBySite}
 use Rattle.coord_laws.specs.Pasts.{IsOpened, NameDeclared}
 use Rattle.coord_laws.proofs.ForCallers.{names_declared, no_length, nothing_read, opened_begun, opened_disk, read_is, torn_short, usable_go_on}

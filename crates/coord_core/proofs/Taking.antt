@@ -16,7 +16,7 @@ use Rattle.fed_rules.specs.Coord.{answered, did_counts, of_inquiry, of_take}
 use Rattle.fed_rules.specs.CoordPast.{CoordPast}
 use Rattle.fed_rules.specs.Policies.{Policy}
 use Rattle.journal_disk.specs.Disk.{Seen}
-use Rattle.rules_laws.proofs.ForCallers.{counts_open}
+use Rattle.fed_rules.proofs.ForCallers.{counts_open}
 use Rattle.actor_store.specs.declared.store.Standing.TheVariants.{Up}
 use Rattle.global_exec.specs.Counted.{counts}
 use Rattle.global_exec.specs.Live.{live_of}

@@ -8,7 +8,7 @@ use Rattle.fed_rules.specs.CoordPast.{CoordHappening, begins, CoordPast, disk}
 use Rattle.coord_laws.proofs.Begun.{begun_answer}
 use Rattle.fed_rules.specs.declared.answers.Answer.TheVariants as Say
 use Rattle.fed_rules.specs.declared.events.CoordEvent.{CoordEvent}
-use Rattle.rules_laws.specs.Active.{IsActive}
+use Rattle.fed_rules.specs.Active.{IsActive}
 use Rattle.coord_laws.proofs.Standings.{last_vote_of, undecided_from, commit_from}
 use Rattle.coord_laws.proofs.Made.{IsMade, Begins}
 

@@ -16,7 +16,7 @@ use Rattle.fed_rules.specs.declared.records.CoordRecord.TheVariants as Rec
 use Rattle.fed_rules.specs.Coord.{missing}
 use Rattle.fed_rules.specs.CoordPast.{CoordHappening, CoordPast, records, Undecided, Decided, Gone, standing_of, standing, participants, program, visits, has_acked}
 use Rattle.fed_rules.specs.CoordRecords.{named, has_commit, has_end, outcome, required_of, required, is_nobody, is_kept}
-use Rattle.rules_laws.proofs.ForCallers.{appended}
+use Rattle.fed_rules.proofs.ForCallers.{appended}
 use Rattle.order_laws.proofs.ForCallers.{same_of, those_same}
 use Rattle.coord_laws.proofs.Facts.{is_undecided, kept_standing, IsOpen, IsEnding, WroteAll, Same, Starts, Decides, Forgets, Restarts}
 use Rattle.coord_laws.proofs.Lines.{Kept, Stood, Stopped, Through}

@@ -15,7 +15,7 @@ use Rattle.fed_rules.specs.Disk.{Disk, after_calls, bytes_of, empty_disk}
 use Rattle.fed_rules.specs.Reopened.{blank_ends, coord_opening, coord_read, coord_reads_as, coord_sum_read, commit_read, end_read, initiation_read, is_open_in, long_coord, oldest, rewritten, torn_off}
 use Rattle.fed_rules.specs.Usable.{AreSumsOfOpen, CoordSumsFit, StandInOrder}
 use Rattle.fed_rules.specs.Usable as Usable
-use Rattle.rules_laws.proofs.ForCallers.{expanded, expanded_is, opened_length, opened_records, opened_synced, opened_trimmed}
+use Rattle.fed_rules.proofs.ForCallers.{expanded, expanded_is, opened_length, opened_records, opened_synced, opened_trimmed}
 use Rattle.coord_laws.specs.Pasts.{IsOpened}
 use Rattle.coord_laws.proofs.OpenedPasts.{is_sound, opened_disk}
 use Rattle.coord_laws.proofs.Past.{any_member}

@@ -10,7 +10,7 @@ use Rattle.fed_rules.specs.CoordPast.{CoordPast, disk, records}
 use Rattle.fed_rules.specs.CoordRecords.{coord_frame}
 use Rattle.fed_rules.specs.CoordSums.{coord_sum, coord_journal_sum}
 use Rattle.fed_rules.specs.Policies.{Policy}
-use Rattle.rules_laws.specs.Durable.{IsFirm}
+use Rattle.fed_rules.specs.Durable.{IsFirm}
 use Rattle.coord_laws.specs.Records.{IsEnd}
 use Rattle.coord_laws.proofs.Facts.{WroteAll}
 use Rattle.coord_laws.specs.Pasts.{OfPasts}

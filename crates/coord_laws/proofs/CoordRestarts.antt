@@ -245,9 +245,6 @@ going_tells protocols policy past made =
 pub journal_tells : OfFreshPasts JournalTellsRestart
 journal_tells protocols policy past made = going_tells protocols policy past (going_on protocols policy past made)
 
-pub made_journals_say_all : OfFreshPasts CoordJournalSaysAll
-made_journals_say_all protocols policy past made = going_journals_say_all protocols policy past (going_on protocols policy past made)
-
 pub coord_journals_say_all : OfCoordinators CoordJournalSaysAll
 coord_journals_say_all protocols policy events =
     journal_same protocols (disk (coord_past protocols policy events)) (past_fine protocols policy events) ∙ coordinators_say protocols policy events

@@ -18,8 +18,8 @@ use Rattle.fed_rules.specs.CoordSums.{coord_journal_sum, coord_sum_with}
 use Rattle.fed_rules.specs.Disk.{Append, Call, CutBack, TrimFront, Stops, Sync, Disk, after_call, after_calls, bytes_of, standing, whole}
 use Rattle.fed_rules.specs.Happenings.{Trip, is_down, quiet, stopped, tripped}
 use Rattle.fed_rules.specs.Policies.{Policy}
-use Rattle.rules_laws.specs.Durable.{IsSound}
-use Rattle.rules_laws.proofs.ForCallers.{sound_call, whole_all}
+use Rattle.fed_rules.specs.Durable.{IsSound}
+use Rattle.fed_rules.proofs.ForCallers.{sound_call, whole_all}
 use Rattle.coord_laws.proofs.CoordCalls.{Shape, Idle, Appends, Forces, Cuts, Checks, HasShape, answered_shape, back_shape}
 
 -- what was trimmed stands before a synced Checkpoint

@@ -27,7 +27,7 @@ use Rattle.fed_rules.specs.Coord.{send_due, is_prepare, lacks_initiation, sends_
 use Rattle.fed_rules.specs.CoordPast.{CoordHappening, CoordPast, records, Standing, Undecided, Decided, Gone, standing, reads, participants, program, program_in, or_steps, visits, counted, did_in, last_epoch, epoch_at, count_at, has_ticket_at, is_wait, is_ticket, has_step_left, vote_at, outstanding, outstanding_at, work_at, take_at, prepare_at, next_step, attempts_of, undecided_of}
 use Rattle.fed_rules.specs.CoordRecords.{class_of, has_initiation, named, committed_of}
 use Rattle.coord_laws.proofs.Facts.{IsOpen, Stands, Same, Starts, IsPreparing, IsTelling, Known, Presumed, Tells, Counted, Goes}
-use Rattle.rules_laws.proofs.ForCallers.{IsSending}
+use Rattle.fed_rules.proofs.ForCallers.{IsSending}
 use Rattle.coord_laws.proofs.Rules.{goes_when, goes_given, IsCalm, Sending, sending_answer, calm_committed, standing_on, acked_on, IsNoAck, calm_standing, calm_acked, silently, no_ack}
 
 pub each_found : {A B : Type 0} (P : B → Type 0) (look : A → Option B) → ((x : A) (b : B) → look x ≡ Some b → P b) → (xs : List A)

@@ -18,7 +18,7 @@ use Rattle.fed_rules.specs.Coord.{forgets_at_once, abort_records, forced, aborts
 use Rattle.fed_rules.specs.CoordPast.{CoordHappening, CoordPast, disk, records, Decided, Gone, standing, is_about, decides, acks_in, has_acked, participants, is_prepare_of, has_sent}
 use Rattle.fed_rules.specs.CoordRecords.{coord_frame, class_of, has_abort, required, is_nobody}
 use Rattle.coord_laws.specs.Records.{IsEnd}
-use Rattle.rules_laws.proofs.ForCallers.{IsQuiet, appended, plain_records, quiet_plain}
+use Rattle.fed_rules.proofs.ForCallers.{IsQuiet, appended, plain_records, quiet_plain}
 use Rattle.coord_laws.proofs.Facts.{moved, IsOpen, IsUnmarked, IsUncommitted, WroteAll, Stands, Same, Decides, IsTelling, Now, Tells, Counted, Goes}
 use Rattle.coord_laws.proofs.Rules.{standing_on, acked_on, IsNoAck}
 use Rattle.order_laws.proofs.ForCallers.{of_same}

@@ -24,7 +24,7 @@ use Rattle.fed_rules.specs.Coord.{missing, did_counts, all_voted, protocol_of}
 use Rattle.fed_rules.specs.CoordPast.{CoordHappening, CoordPast, records, Standing, Undecided, Decided, Gone, standing_of, standing, kept_decision, is_about, begins, counts, participants, program, visits, epoch_at, has_ticket_at, has_acked}
 use Rattle.fed_rules.specs.CoordRecords.{class_of, has_initiation, ticketed, named, required, is_nobody}
 use Rattle.coord_laws.specs.Records.{IsCommit, IsEnd}
-use Rattle.rules_laws.proofs.ForCallers.{IsQuiet, appended}
+use Rattle.fed_rules.proofs.ForCallers.{IsQuiet, appended}
 use Rattle.fed_rules.specs.CoordSums.{coord_sum}
 use Rattle.fed_rules.specs.Usable.{IsDeclaredAt}
 

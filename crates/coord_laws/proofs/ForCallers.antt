@@ -5,7 +5,7 @@ pub use Rattle.coord_laws.proofs.Clear.{all_missing, coord_turn, ends_for, named
 pub use Rattle.coord_laws.proofs.CoordOpened.{is_fine, no_length, nothing_read, read_is, torn_short}
 pub use Rattle.coord_laws.proofs.CoordPasts.{coordinators_sum, sums_front}
 pub use Rattle.coord_laws.proofs.CoordRead.{decided_any, none_commit, open_rise, order_behind, sum_read, tidy_in_order}
-pub use Rattle.coord_laws.proofs.CoordRestarts.{among_inserted, committed_is, going_journals_say_all, going_tells, journal_tells, made_journals_say_all, none_required, past_tidy}
+pub use Rattle.coord_laws.proofs.CoordRestarts.{among_inserted, committed_is, going_journals_say_all, going_tells, journal_tells, none_required, past_tidy}
 pub use Rattle.coord_laws.proofs.CoordTold.{IsTidy, Once, found_or_not, is_of, left_open, once_open, open_is, rises, unless_ended}
 pub use Rattle.coord_laws.proofs.CoordTrims.{IsFine, IsTrimmed, line_fine, past_fine, standing_all, standing_trimmed}
 pub use Rattle.coord_laws.proofs.Cycles.{IsFree, commit_behind, commits_whole}

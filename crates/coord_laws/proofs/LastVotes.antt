@@ -29,7 +29,7 @@ use Rattle.fed_rules.specs.Coord.{is_take, may_take, held_back, let_through, def
 use Rattle.fed_rules.specs.CoordPast.{CoordHappening, CoordPast, records, is_open, participants, program, visits, outstanding, epoch_at, vote_at}
 use Rattle.fed_rules.specs.CoordRecords.{has_ticket, ticketed, required, is_nobody, commits}
 use Rattle.fed_rules.specs.Policies.{Policy}
-use Rattle.rules_laws.proofs.ForCallers.{appended, some_sending}
+use Rattle.fed_rules.proofs.ForCallers.{appended, some_sending}
 use Rattle.coord_laws.proofs.Facts.{IsOpen, IsCommitting, Stands, Same, Decides, IsTelling, Now, Tells, Counted, Goes}
 use Rattle.coord_laws.proofs.Rules.{goes_when, goes_given, open_undecided, acked_on, silently, ignored}
 use Rattle.coord_laws.proofs.Dues.{IsOwed, news_owed, by_dues}

@@ -17,9 +17,9 @@ use Rattle.fed_rules.specs.Coord.{coord_line, answered, of_back}
 use Rattle.fed_rules.specs.CoordPast.{CoordHappening, CoordPast, disk, records, trip, standing, begins, counts, has_acked}
 use Rattle.fed_rules.specs.CoordRecords.{coord_frame}
 use Rattle.fed_rules.specs.Policies.{Policy}
-use Rattle.rules_laws.specs.Durable.{IsFirm}
+use Rattle.fed_rules.specs.Durable.{IsFirm}
 use Rattle.coord_laws.specs.Records.{IsCommit, IsEnd}
-use Rattle.rules_laws.proofs.ForCallers.{IsCut, Keeps, appended, left_by_line, left_by_stop, plain_records, quiet_plain}
+use Rattle.fed_rules.proofs.ForCallers.{IsCut, Keeps, appended, left_by_line, left_by_stop, plain_records, quiet_plain}
 use Rattle.coord_laws.proofs.Facts.{kept_standing, WroteAll, Stands, Tells, Counted, Committed, Goes}
 use Rattle.coord_laws.proofs.Rules.{silently, uncounted}
 use Rattle.coord_laws.proofs.Restarts.{by_answered, by_back}

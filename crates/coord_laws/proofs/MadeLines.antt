@@ -1,6 +1,6 @@
 -- Each line of the coordinator is made so, by whichever rule it goes.
 use Rattle.mdb_base.proofs.ForCallers.{each_filtered, each_of_found, some_parts}
-use Rattle.rules_laws.proofs.ForCallers.{IsSending, all_sending, some_sending}
+use Rattle.fed_rules.proofs.ForCallers.{IsSending, all_sending, some_sending}
 use Rattle.std.proofs.Common.{◌≡◌, ℕ, zero, suc, Bool, true, false, cond, not, ◌&&◌, ◌||◌, is_none, Option, Some, None, List, [], ◌∷◌, ◌++◌, take, map, refl, sym, ap, ◌∙◌}
 use Rattle.mdb_base.specs.declared.acts.Step.{Step}
 use Rattle.mdb_base.specs.declared.names.SiteId.{SiteId}

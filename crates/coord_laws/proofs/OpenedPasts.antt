@@ -24,8 +24,8 @@ use Rattle.fed_rules.specs.CoordRecords.{commits, coord_frame, has_end, is_kept,
 use Rattle.fed_rules.specs.Disk.{Append, Sync, after_calls, empty_disk}
 use Rattle.fed_rules.specs.Found.{Journal}
 use Rattle.fed_rules.specs.Reopened.{all_gone, all_heard, coord_opening, coord_read, coord_reads_as, go_on, goes, heard_of, long_coord, opened_coordinator, rewritten, visit}
-use Rattle.rules_laws.specs.Durable.{IsFirm, IsSound}
-use Rattle.rules_laws.proofs.ForCallers.{calls_split, firm_stop, sound_calls}
+use Rattle.fed_rules.specs.Durable.{IsFirm, IsSound}
+use Rattle.fed_rules.proofs.ForCallers.{calls_split, firm_stop, sound_calls}
 use Rattle.order_laws.specs.Tickets.{HasNoCycle, OneEach}
 use Rattle.fed_rules.specs.Usable.{IsEndOf}
 use Rattle.coord_laws.specs.Pasts.{IsOpened, NameDeclared}

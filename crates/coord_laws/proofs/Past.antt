@@ -14,7 +14,7 @@ use Rattle.fed_rules.specs.declared.records.CoordRecord.TheVariants as Rec
 use Rattle.fed_rules.specs.CoordPast.{CoordHappening, CoordPast, disk, records, Standing, Undecided, Decided, Gone, standing, is_known, is_open, begun_by, begun_tids, program, visits}
 use Rattle.fed_rules.specs.CoordRecords.{named, has_end, commits, recorded}
 use Rattle.fed_rules.specs.Policies.{Policy}
-use Rattle.rules_laws.proofs.ForCallers.{with_distinct, with_in}
+use Rattle.fed_rules.proofs.ForCallers.{with_distinct, with_in}
 use Rattle.coord_laws.specs.Laws.{BeginOnce, BeginInOrder, KnownAreBegun, UndecidedAreUnmarked, DecisionsAreOutcomes, DecidedAreAwaited, RecordsNameParticipants, RecordedAreBegun, ParticipantsAreDeclared, CommitOnce, CommitsCloseNoCycle}
 use Rattle.coord_laws.specs.Pasts.{IsGoingOn, IsMadeByEvents, IsNextLine, OfPasts}
 use Rattle.coord_laws.proofs.OpenedPasts.{is_cycle_free, is_numbered, is_once, is_sound}

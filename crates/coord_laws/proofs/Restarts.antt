@@ -24,7 +24,7 @@ use Rattle.fed_rules.specs.CoordPast.{CoordHappening, CoordPast, disk, records, 
 use Rattle.fed_rules.specs.CoordRecords.{coord_frame, named, required_of, is_nobody, coord_payload}
 use Rattle.fed_rules.specs.Policies.{Policy}
 use Rattle.coord_laws.specs.Records.{IsEnd}
-use Rattle.rules_laws.proofs.ForCallers.{IsQuiet, all_sending, appended}
+use Rattle.fed_rules.proofs.ForCallers.{IsQuiet, all_sending, appended}
 use Rattle.coord_laws.proofs.Facts.{is_undecided, IsEnding, WroteAll, Stands, Same, Forgets, Restarts, IsTelling, Known, Tells, Goes}
 use Rattle.coord_laws.proofs.Rules.{goes_when, open_undecided, standing_on, acked_on, calm_standing, calm_acked, silently, ignored, no_ack}
 use Rattle.coord_laws.proofs.Dues.{IsOwed, all_owed, by_go, by_dues, by_inquiry, by_fate}

@@ -15,7 +15,7 @@ use Rattle.fed_rules.specs.declared.messages.FromSite.TheVariants as From
 use Rattle.fed_rules.specs.declared.records.CoordRecord.{CoordRecord}
 use Rattle.fed_rules.specs.Happenings.{quiet, stops, comes_up}
 use Rattle.fed_rules.specs.CoordPast.{CoordHappening, CoordPast, records, Standing, standing_of, standing, opened, is_open, decided, kept_decision, known_decision, is_about, begins, counts, decides, acks_in, has_acked}
-use Rattle.rules_laws.proofs.ForCallers.{IsSending}
+use Rattle.fed_rules.proofs.ForCallers.{IsSending}
 use Rattle.coord_laws.proofs.Facts.{is_undecided, moved, IsOpen, Same, Counted, Committed, Goes}
 
 pub goes_when : (protocols : List Participant) (g : Tid) (past : CoordPast) (event : CoordEvent) (b : Bool) (x y : CoordHappening)

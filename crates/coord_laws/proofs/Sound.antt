@@ -17,9 +17,9 @@ use Rattle.fed_rules.specs.declared.records.CoordRecord.TheVariants as Rec
 use Rattle.fed_rules.specs.Coord.{missing}
 use Rattle.fed_rules.specs.CoordPast.{CoordHappening, CoordPast, disk, records, Decided, Gone, standing_of, standing, begins, participants, program, program_in, or_steps, visits, attempts_of}
 use Rattle.fed_rules.specs.CoordRecords.{coord_frame, ticketed, named, outcome, is_nobody, is_kept}
-use Rattle.rules_laws.specs.Durable.{IsFirm}
+use Rattle.fed_rules.specs.Durable.{IsFirm}
 use Rattle.coord_laws.specs.Records.{IsCommit, IsEnd}
-use Rattle.rules_laws.proofs.ForCallers.{cut_old, cut_stays}
+use Rattle.fed_rules.proofs.ForCallers.{cut_old, cut_stays}
 use Rattle.coord_laws.proofs.Facts.{is_undecided, kept_standing, IsOpen, IsCommitting, WroteAll, Same, Starts, Decides, Forgets, Restarts}
 use Rattle.coord_laws.proofs.Lines.{Kept, Stood, Stopped, Through}
 use Rattle.coord_laws.proofs.RecordLists.{named_behind, named_more, ends_silent}

@@ -15,7 +15,7 @@ use Rattle.fed_rules.specs.CoordPast.{CoordHappening, CoordPast, records, Undeci
 use Rattle.fed_rules.specs.CoordRecords.{named, has_commit, has_end, outcome, required, is_nobody, is_kept}
 use Rattle.coord_laws.specs.Pasts.{IsNumbered}
 use Rattle.coord_laws.specs.Records.{IsCommit}
-use Rattle.rules_laws.proofs.ForCallers.{appended}
+use Rattle.fed_rules.proofs.ForCallers.{appended}
 use Rattle.order_laws.proofs.ForCallers.{each_not, same_of}
 use Rattle.coord_laws.proofs.Begun.{begun_number, more_attempts}
 use Rattle.coord_laws.proofs.Facts.{is_undecided, IsOpen, IsUnmarked, IsCommitting, WroteAll, Same, Starts, Decides, Forgets, Restarts}

@@ -1,5 +1,5 @@
 -- A line that decides an attempt abort.
-use Rattle.std.proofs.Common.{◌≡◌, Bool, true, false, cond, ◌&&◌, is_some, option_to_list, IfSome, Option, Some, None, List, [], ◌∷◌, ◌++◌, map, refl, sym, ap, ap₂, subst, ◌∙◌, arith}
+use Rattle.std.proofs.Common.{◌≡◌, Bool, true, false, cond, ◌&&◌, is_some, option_to_list, Option, Some, None, List, [], ◌∷◌, ◌++◌, map, refl, sym, ap, ap₂, subst, ◌∙◌}
 use Rattle.std.proofs.lemmas.Bool.{cond-true, cond-false}
 use Rattle.mdb_base.specs.declared.names.Tid.{Tid}
 use Rattle.mdb_base.specs.declared.names.Tx.{Tx}
@@ -15,11 +15,8 @@ use Rattle.fed_rules.specs.declared.records.CoordRecord.{CoordRecord}
 use Rattle.fed_rules.specs.declared.records.CoordRecord.TheVariants as Rec
 use Rattle.fed_rules.specs.Coord.{abort_records, aborts, decide_to, forced, forgets_at_once}
 use Rattle.fed_rules.specs.CoordRecords.{class_of, committed_of, commits, has_abort, named}
-use Rattle.fed_rules.specs.CoordPast.{CoordHappening, CoordPast, has_sent, is_open, is_prepare_of, participants, records}
+use Rattle.fed_rules.specs.CoordPast.{CoordHappening, CoordPast, has_sent, is_prepare_of, participants, records}
 use Rattle.coord_laws.proofs.ForCallers.{records_name}
-use Rattle.journal_disk.specs.Frames.{IsPayload}
-use Rattle.coord_journal.specs.PayloadSizes.{payload_has_size}
-use Rattle.coord_journal.specs.Spelling.{InRange, spelling}
 use Rattle.global_exec.specs.Firsts.{taken_out}
 use Rattle.global_exec.specs.Live as live
 use Rattle.global_exec.specs.Live.{Live}
@@ -35,7 +32,7 @@ use Rattle.coord_tables.specs.Tables.{IsServing}
 use Rattle.coord_tables.specs.Terms.{Terms, IsSound}
 use Rattle.coord_tables.proofs.Again.{prepares_none, takes_none}
 use Rattle.coord_tables.proofs.Decided.{IsDeciding, decided_serving, forgets_is}
-use Rattle.coord_tables.proofs.Initiations.{begun_in_range, few_participants, known_none, known_some, participants_declared}
+use Rattle.coord_tables.proofs.Initiations.{known_none, known_some}
 
 -- whether the abort is recorded
 abbrev pub is_recorded : List Participant → CoordPast → Tid → Bool
@@ -58,24 +55,6 @@ aborts_are protocols past event tid cause = refl
 pub listed : (r : CoordRecord) (b : Bool) → cond b (r ∷ []) [] ≡ option_to_list (cond b (Some r) None)
 listed r true = refl
 listed r false = refl
-
--- what is recorded of an attempt fits
-abort_fits : (terms : Terms) (past : CoordPast) (tid : Tid) → IsSound terms past → (b : Bool) → IfSome (cond b (Some (Rec.Abort tid (participants terms.protocols past tid))) None) (λ r. IsPayload (spelling r))
-abort_fits terms past tid sound false = tt
-abort_fits terms past tid sound true =
-    let size = payload_has_size (Rec.Abort tid (participants terms.protocols past tid)) in
-    let few = few_participants terms past tid sound in
-    omega arith
-
-abort_in_range : (terms : Terms) (past : CoordPast) (tid : Tid) → IsSound terms past → is_open past tid ≡ true → (b : Bool) → IfSome (cond b (Some (Rec.Abort tid (participants terms.protocols past tid))) None) InRange
-abort_in_range terms past tid sound u false = tt
-abort_in_range terms past tid sound u true = (begun_in_range terms past tid sound u, participants_declared terms past tid sound)
-
-pub abort_record_fits : (terms : Terms) (past : CoordPast) (tid : Tid) (entry : Option CoordRecord) → IsSound terms past → entry ≡ abort_of terms.protocols past tid → IfSome entry (λ e. IsPayload (spelling e))
-abort_record_fits terms past tid entry sound e = subst (λ (o : Option CoordRecord). IfSome o (λ r. IsPayload (spelling r))) (sym e) (abort_fits terms past tid sound (is_recorded terms.protocols past tid))
-
-pub abort_record_in_range : (terms : Terms) (past : CoordPast) (tid : Tid) (entry : Option CoordRecord) → IsSound terms past → is_open past tid ≡ true → entry ≡ abort_of terms.protocols past tid → IfSome entry InRange
-abort_record_in_range terms past tid entry sound u e = subst (λ (o : Option CoordRecord). IfSome o InRange) (sym e) (abort_in_range terms past tid sound u (is_recorded terms.protocols past tid))
 
 module _ (terms : Terms) (past : CoordPast) (event : CoordEvent) (tid : Tid) (printed : Cause) (i : IsAborting terms past event tid printed) (sound : IsSound terms past) where
   abbrev entry : Option CoordRecord

@@ -1,16 +1,14 @@
 -- What an acknowledgement of a known decision comes to.
-use Rattle.std.proofs.Common.{◌≡◌, Bool, true, false, cond, not, Option, Some, None, List, [], ◌∷◌, refl, sym, ap, ap₂, subst, ◌∙◌, arith}
+use Rattle.std.proofs.Common.{◌≡◌, Bool, true, false, cond, not, Option, Some, None, List, [], ◌∷◌, refl, sym, ap, ap₂, subst, ◌∙◌}
 use Rattle.std.proofs.lemmas.Bool.{cond-true}
 use Rattle.mdb_base.specs.declared.names.SiteId.{SiteId}
 use Rattle.mdb_base.specs.declared.names.Tid.{Tid}
 use Rattle.mdb_base.specs.Names.{same_tid}
 use Rattle.mdb_base.specs.Words.{holds_of, map_some, or_else, some_of, when}
 use Rattle.mdb_base.proofs.ForCallers.{cond_same, same_tid-equal, same_tid-refl}
-use Rattle.order_laws.proofs.ForCallers.{in_each}
 use Rattle.presumptions.specs.declared.Decision.{Decision}
 use Rattle.presumptions.specs.declared.Participant.{Participant}
 use Rattle.presumptions.specs.declared.Protocol.TheVariants as By
-use Rattle.field_bytes.specs.Fields.{IsTid}
 use Rattle.fed_rules.specs.declared.answers.Answer.TheVariants as Say
 use Rattle.fed_rules.specs.declared.events.CoordEvent.TheVariants as Ev
 use Rattle.fed_rules.specs.declared.messages.FromSite.TheVariants as From
@@ -19,12 +17,8 @@ use Rattle.fed_rules.specs.Disk.{Append}
 use Rattle.fed_rules.specs.Happenings.{comes_up, quiet, stops}
 use Rattle.fed_rules.specs.Coord.{ack_counts, acked_while, answered, is_member, missing, of_ack, of_take}
 use Rattle.fed_rules.specs.CoordRecords.{is_nobody}
-use Rattle.fed_rules.specs.CoordPast.{CoordHappening, CoordPast, Standing, Undecided, Decided, Gone, begun_by, begun_tids, is_known, is_open, known_decision, standing, standing_of}
+use Rattle.fed_rules.specs.CoordPast.{CoordHappening, CoordPast, Standing, Undecided, Decided, Gone, begun_by, is_open, known_decision, standing, standing_of}
 use Rattle.fed_rules.specs.Right.{MayPrint}
-use Rattle.coord_laws.proofs.ForCallers.{known_begun}
-use Rattle.journal_disk.specs.Frames.{IsPayload}
-use Rattle.coord_journal.specs.PayloadSizes.{payload_has_size}
-use Rattle.coord_journal.specs.Spelling.{spelling}
 use Rattle.global_exec.specs.Live.{Live, live_of}
 use Rattle.protocol_table.specs.declared.ends.AckEnd.{AckEnd}
 use Rattle.protocol_table.specs.declared.ends.AckEnd.TheVariants as Ack
@@ -37,7 +31,7 @@ use Rattle.protocol_table.proofs.ForCallers.{ack_keeps, acks_agree, acks_go}
 use Rattle.coord_tables.specs.declared.tables.Tables.{Tables}
 use Rattle.coord_tables.specs.Attempts.{IsLiveAs}
 use Rattle.coord_tables.specs.Tables.{IsServing}
-use Rattle.coord_tables.specs.Terms.{Terms, IsSound, answer_of}
+use Rattle.coord_tables.specs.Terms.{Terms, answer_of}
 use Rattle.coord_tables.proofs.Again.{decided_none, decided_some}
 use Rattle.coord_tables.proofs.Calm.{uncounted_calm}
 use Rattle.coord_tables.proofs.Lines.{IsAsBefore, IsSentAs, calm, elsewhere, known_stays}
@@ -274,13 +268,6 @@ ack_follows tables terms past site tid d end s st is = by_known (known_of tid ta
   by_known None e i = absurd (decided_none tables terms past tid d s st e)
   by_known (Some known) e i = subst (λ (x : AckEnd). Follows tables terms past site tid x) (sym i)
       (record { answer = ack_answer tables terms past site tid d known s st e; serving = ack_serving tables terms past site tid d known s st e })
-
--- the End record fits, and its attempt lies in its range
-pub end_fits : (tid : Tid) → IsPayload (spelling (Rec.End tid))
-end_fits tid = let size = payload_has_size (Rec.End tid) in omega arith
-
-pub decided_in_range : (terms : Terms) (past : CoordPast) (tid : Tid) (d : Decision) → IsSound terms past → standing terms.protocols past tid ≡ Decided d → IsTid tid
-decided_in_range terms past tid d sound st = in_each IsTid (begun_tids past) tid sound.in_range (known_begun terms.protocols terms.policy past sound.made tid (ap is_known st))
 
 -- ---- what doesn't count
 

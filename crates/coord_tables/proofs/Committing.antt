@@ -1,5 +1,5 @@
 -- The last yes vote of an attempt, which decides it: abort where it closes a cycle, and else commit.
-use Rattle.std.proofs.Common.{◌≡◌, ℕ, ◌≤◌, Bool, true, false, cond, All, Option, Some, None, List, [], ◌∷◌, length, map, refl, sym, ap, ap₂, subst, ◌∙◌, arith}
+use Rattle.std.proofs.Common.{◌≡◌, ℕ, Bool, true, false, cond, Option, Some, None, List, [], ◌∷◌, map, refl, sym, ap, ap₂, subst, ◌∙◌}
 use Rattle.std.proofs.lemmas.Bool.{cond-true, cond-false, false≢true}
 use Rattle.mdb_base.specs.declared.names.SiteId.{SiteId}
 use Rattle.mdb_base.specs.declared.names.SiteTicket.{SiteTicket}
@@ -7,9 +7,8 @@ use Rattle.mdb_base.specs.declared.names.Tid.{Tid}
 use Rattle.mdb_base.specs.declared.names.Tx.{Tx}
 use Rattle.mdb_base.specs.declared.replies.Edge.{Edge}
 use Rattle.mdb_base.specs.Names.{same_tx}
-use Rattle.mdb_base.specs.Rising.{IsRising}
-use Rattle.mdb_base.specs.Words.{Each, found, given, map_some, or_else, with_some}
-use Rattle.mdb_base.proofs.ForCallers.{each_filtered, same_tid-refl, some_parts}
+use Rattle.mdb_base.specs.Words.{found, given, map_some, or_else}
+use Rattle.mdb_base.proofs.ForCallers.{same_tid-refl}
 use Rattle.order_laws.specs.Chains.{In}
 use Rattle.order_laws.specs.Search.{cycle_through}
 use Rattle.order_laws.specs.Tickets.{IsCycle, OneEach, Ticketed, edge_between}
@@ -17,8 +16,6 @@ use Rattle.order_laws.proofs.ForCallers.{cycle_none}
 use Rattle.presumptions.specs.declared.Decision.{Decision}
 use Rattle.presumptions.specs.declared.Decision.TheVariants as Decided
 use Rattle.presumptions.specs.declared.Participant.{Participant}
-use Rattle.record_fields.specs.Named.{IsSite}
-use Rattle.record_fields.proofs.ForCallers.{few_sites}
 use Rattle.fed_rules.specs.declared.answers.Answer.{Answer}
 use Rattle.fed_rules.specs.declared.answers.Answer.TheVariants as Say
 use Rattle.fed_rules.specs.declared.answers.Cause.TheVariants as For
@@ -27,12 +24,9 @@ use Rattle.fed_rules.specs.declared.records.CoordRecord.TheVariants as Rec
 use Rattle.fed_rules.specs.Disk.{Append, Sync}
 use Rattle.fed_rules.specs.Coord.{aborts, all_voted, commits_it, decide_to, forgets_at_once, last_vote, vote_ticket, vote_tickets}
 use Rattle.fed_rules.specs.CoordRecords.{commits, named, ticketed}
-use Rattle.fed_rules.specs.CoordPast.{CoordHappening, CoordPast, Undecided, begins, counts, is_open, known_decision, or_steps, or_vote, participants, participants_of, program, program_in, records, standing, standing_of, visits, vote_at, vote_in}
+use Rattle.fed_rules.specs.CoordPast.{CoordHappening, CoordPast, Undecided, begins, counts, is_open, known_decision, or_steps, or_vote, participants, participants_of, program, program_in, records, standing, standing_of, vote_at, vote_in}
 use Rattle.fed_rules.specs.Right.{IsRefusal, SameButCycle}
 use Rattle.coord_laws.proofs.ForCallers.{commits_once, committed_tid, records_name, tickets_name, undecided_unmarked}
-use Rattle.journal_disk.specs.Frames.{IsPayload}
-use Rattle.coord_journal.specs.PayloadSizes.{payload_has_size}
-use Rattle.coord_journal.specs.Spelling.{InRange, spelling}
 use Rattle.global_exec.specs.Firsts.{taken_out}
 use Rattle.global_exec.specs.Live as live
 use Rattle.global_exec.specs.Live.{Live}
@@ -50,26 +44,8 @@ use Rattle.coord_tables.specs.Terms.{Terms, IsSound, answer_of}
 use Rattle.coord_tables.specs.Voting.{IsLastVote, vote_event, voted_past}
 use Rattle.coord_tables.proofs.Again.{prepares_none, takes_none}
 use Rattle.coord_tables.proofs.Decided.{IsDeciding, decided_serving, forgets_is}
-use Rattle.coord_tables.proofs.Initiations.{all_of, begun_in_range, known_none, known_open, known_some, participants_rise}
-use Rattle.coord_tables.proofs.Voting.{found_rise, last_parts, vote_last, vote_open}
-
--- ---- tickets of votes
-
-votes_declared : (past : CoordPast) (tid : Tid) (ps : List Participant) → Each (λ p. IsSite p.site) ps → Each (λ k. IsSite k.site) (vote_tickets past tid ps)
-votes_declared past tid [] h = tt
-votes_declared past tid (p ∷ ps) h = by_vote (vote_at past tid p.site) (votes_declared past tid ps h.1) where
-  by_vote : (v : Option ℕ) → Each (λ k. IsSite k.site) (vote_tickets past tid ps) → Each (λ k. IsSite k.site) (with_some (vote_ticket p.site v) (vote_tickets past tid ps))
-  by_vote None rest = rest
-  by_vote (Some n) rest = (h.0, rest)
-
-ticket_at : (site : SiteId) (v : Option ℕ) (k : SiteTicket) → vote_ticket site v ≡ Some k → k.site.0 ≡ site.0
-ticket_at site None k e = cc
-ticket_at site (Some n) k e = ap (λ (t : SiteTicket). t.site.0) (sym (some_parts e))
-
-votes_rise : (past : CoordPast) (tid : Tid) (ps : List Participant) → IsRising (λ p. p.site.0) ps → IsRising (λ k. k.site.0) (vote_tickets past tid ps)
-votes_rise past tid ps h = found_rise (λ (p : Participant). p.site.0) (λ (k : SiteTicket). k.site.0) (λ p. vote_ticket p.site (vote_at past tid p.site)) (λ p k e. ticket_at p.site (vote_at past tid p.site) k e) ps h
-
--- ---- the line
+use Rattle.coord_tables.proofs.Initiations.{known_none, known_open, known_some}
+use Rattle.coord_tables.proofs.Voting.{last_parts, vote_last, vote_open}
 
 -- the line of a commit
 abbrev pub commit_line : List Participant → CoordPast → CoordEvent → Tid → List SiteTicket → CoordHappening
@@ -117,24 +93,6 @@ module _ (terms : Terms) (past : CoordPast) (site : SiteId) (tid : Tid) (ticket 
   -- the line is that of the last vote
   pub last_line : answer_of terms past event ≡ last_vote terms.protocols past event tid tickets
   last_line = vote_last terms past site tid ticket tickets l.counted.counts l.last
-
-  -- what is recorded fits
-  declared : All (λ k. IsSite k.site) tickets
-  declared = subst (λ (ks : List SiteTicket). All (λ k. IsSite k.site) ks) parts.1
-      (all_of (λ (k : SiteTicket). IsSite k.site) _ (votes_declared (voted_past past site tid ticket) tid (participants terms.protocols past tid)
-      (each_filtered (λ (p : Participant). IsSite p.site) (λ (p : Participant). visits p.site (program past tid)) terms.protocols sound.declared)))
-
-  rise : IsRising (λ k. k.site.0) tickets
-  rise = subst (λ (ks : List SiteTicket). IsRising (λ k. k.site.0) ks) parts.1 (votes_rise (voted_past past site tid ticket) tid (participants terms.protocols past tid) (participants_rise terms past tid sound))
-
-  pub commit_fits : IsPayload (spelling (Rec.Commit tid tickets))
-  commit_fits =
-      let size = payload_has_size (Rec.Commit tid tickets) in
-      let few : length tickets ≤ 8 = few_sites (λ (k : SiteTicket). k.site) tickets declared rise in
-      omega arith
-
-  pub commit_in_range : InRange (Rec.Commit tid tickets)
-  commit_in_range = (begun_in_range terms past tid sound last_open, declared)
 
   -- ---- the graph
 

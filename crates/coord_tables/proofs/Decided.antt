@@ -9,7 +9,6 @@ use Rattle.mdb_base.specs.Names.{same_tid}
 use Rattle.mdb_base.specs.Words.{Each, map_some, or_else, some_of, those, with_some}
 use Rattle.mdb_base.proofs.ForCallers.{reverse_more, same_tid-equal, same_tid-refl, same_tid-sym, those_append}
 use Rattle.order_laws.specs.Chains.{In, Distinct}
-use Rattle.order_laws.proofs.ForCallers.{those_in}
 use Rattle.presumptions.specs.declared.Decision.{Decision}
 use Rattle.presumptions.specs.declared.Participant.{Participant}
 use Rattle.fed_rules.specs.declared.answers.Answer.{Answer}
@@ -21,7 +20,7 @@ use Rattle.fed_rules.specs.CoordRecords.{committed_of, commits, is_nobody, named
 use Rattle.fed_rules.specs.CoordPast.{CoordHappening, CoordPast, Standing, Undecided, Decided, Gone, begins, begun_by, begun_tids, decides, is_about, is_open, is_prepare_of, is_take_of, known_decision, opened, participants, records, standing, standing_of}
 use Rattle.fed_rules.specs.CoordPast as Past
 use Rattle.coord_laws.proofs.ForCallers.{begin_once}
-use Rattle.site_history.proofs.ForCallers.{distinct_reverse}
+use Rattle.order_laws.proofs.ForCallers.{distinct_reverse, distinct_those}
 use Rattle.global_exec.specs.Firsts.{taken_out}
 use Rattle.global_exec.specs.Live as live
 use Rattle.global_exec.specs.Live.{Live, live_of}
@@ -47,13 +46,6 @@ use Rattle.coord_tables.proofs.Waiting.{held_stages}
 use Rattle.coord_tables.proofs.Tabled.{known_changed, known_without, other_changed, other_without}
 
 -- ---- lists
-
-pub distinct_those : {A : Type 0} (test : A → Bool) (xs : List A) → Distinct xs → Distinct (those test xs)
-distinct_those test [] d = tt
-distinct_those test (x ∷ xs) d = by_test (test x) (distinct_those test xs d.1) where
-  by_test : (b : Bool) → Distinct (those test xs) → Distinct (cond b (x ∷ those test xs) (those test xs))
-  by_test true rest = ((λ i. d.0 (those_in test x xs i).0), rest)
-  by_test false rest = rest
 
 those_reverse : {A : Type 0} (test : A → Bool) (xs : List A) → those test (reverse xs) ≡ reverse (those test xs)
 those_reverse test [] = refl

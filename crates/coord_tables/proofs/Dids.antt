@@ -23,7 +23,7 @@ use Rattle.fed_rules.specs.Happenings.{quiet}
 use Rattle.fed_rules.specs.Coord.{aborts, answered, defers_some, did_counts, did_reply, fits, held_back, let_through, may_take, news as past_news, of_did, of_take, sends_dues, sends_news}
 use Rattle.fed_rules.specs.CoordPast.{CoordHappening, CoordPast, begins, counted, counts as counts_answer, epoch_at, is_open, is_ticket, is_wait, last_epoch, outstanding, participants_of, vote_at, visits}
 use Rattle.fed_rules.specs.CoordPast as Past
-use Rattle.rules_laws.proofs.ForCallers.{counts_open}
+use Rattle.fed_rules.proofs.ForCallers.{counts_open}
 use Rattle.global_exec.specs.Agreement.{IsOfPast, progress_in}
 use Rattle.global_exec.specs.Counted.{advanced, after_did, counts, is_answer, news_by}
 use Rattle.global_exec.specs.Firsts.{replaced}

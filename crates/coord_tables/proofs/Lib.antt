@@ -7,7 +7,6 @@ mod Calm
 mod Committing
 mod Decided
 mod Dids
-mod EachOnce
 mod Empty
 mod FoundAttempts
 mod Graphs
@@ -15,7 +14,6 @@ mod Held
 mod Initiations
 mod Inquiries
 mod Keepings
-mod KnownAgain
 mod Lates
 mod Lines
 mod Listings
@@ -29,8 +27,6 @@ mod Sent
 mod Reaches
 mod Serving
 mod Staged
-mod Starts
-mod SumRanges
 mod Tabled
 mod Trees
 mod Visits

@@ -9,12 +9,12 @@ use Rattle.mdb_base.specs.Names.{same_tid, tid_before, tid_cmp}
 use Rattle.mdb_base.specs.Words.{inserted, those}
 use Rattle.mdb_base.proofs.ForCallers.{same_tid-equal, same_tid-refl}
 use Rattle.order_laws.specs.Chains.{Distinct, In}
-use Rattle.order_laws.proofs.ForCallers.{all_put, in_those, those_in}
+use Rattle.order_laws.proofs.ForCallers.{all_put, distinct_those, in_those, those_in}
 use Rattle.presumptions.specs.declared.Decision.{Decision}
 use Rattle.fed_rules.specs.Closing.{rising}
 use Rattle.fed_rules.specs.CoordPast.{CoordPast, Standing, begun_tids, is_known, is_open, known_decision, standing, standing_of}
 use Rattle.fed_rules.specs.CoordPast.Standing.{Undecided, Decided, Gone}
-use Rattle.rules_laws.proofs.ForCallers.{rising_one}
+use Rattle.fed_rules.proofs.ForCallers.{rising_one}
 use Rattle.coord_laws.proofs.ForCallers.{begin_once, known_begun}
 use Rattle.order_laws.specs.SortedLists.{also}
 use Rattle.protocol_table.specs.declared.known.Known.{Known}
@@ -24,7 +24,6 @@ use Rattle.coord_tables.specs.Listing.{is_listed, listed_tids}
 use Rattle.coord_tables.specs.Tables.{IsServing}
 use Rattle.coord_tables.specs.Terms.{Terms, IsSound}
 use Rattle.coord_tables.specs.declared.tables.Tables.{Tables}
-use Rattle.coord_tables.proofs.Decided.{distinct_those}
 
 put_rising : (tids : List Tid) → also [] tids ≡ rising tids
 put_rising [] = refl

@@ -20,8 +20,8 @@ use Rattle.fed_rules.specs.Policies.{Policy}
 use Rattle.fed_rules.specs.Reopened.{coord_read, opened_coordinator}
 use Rattle.fed_rules.specs.Usable.{CommitOnce, IsCommitOf}
 use Rattle.fed_rules.specs.Usable as Usable
-use Rattle.rules_laws.specs.Active.{IsActive}
-use Rattle.rules_laws.proofs.ForCallers.{none_committed}
+use Rattle.fed_rules.specs.Active.{IsActive}
+use Rattle.fed_rules.proofs.ForCallers.{none_committed}
 use Rattle.coord_laws.specs.Pasts.{IsGoingOn, IsNextLine, NameDeclared}
 use Rattle.coord_laws.proofs.ForCallers.{IsFirst, IsMade, active_from, begins_same, begun_answer, known_begun, opened_disk, past_made, read_is}
 use Rattle.coord_tables.specs.Terms.{OneActive}

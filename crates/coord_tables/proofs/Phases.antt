@@ -17,7 +17,7 @@ use Rattle.coord_laws.proofs.ForCallers.{known_begun}
 use Rattle.global_exec.specs.Sets.{IsSite, sites_in}
 use Rattle.global_exec.specs.declared.policy.SiteSet.{SiteSet}
 use Rattle.global_exec.proofs.ForCallers.{sets_are_lists}
-use Rattle.rules_laws.proofs.ForCallers.{sites_rise}
+use Rattle.fed_rules.proofs.ForCallers.{sites_rise}
 use Rattle.coord_tables.specs.declared.stages.Stage.{Stage}
 use Rattle.coord_tables.specs.Attempts.{open_tids}
 use Rattle.coord_tables.specs.Stages.{AreStagesOf, HasSitesOf, IsStageOf, is_of, others_taking, stage_of}

@@ -24,7 +24,7 @@ use Rattle.global_exec.specs.Sets.{has_site}
 use Rattle.global_exec.proofs.ForCallers.{sets_are_lists}
 use Rattle.coord_tables.specs.Terms.{Terms, IsSound}
 use Rattle.mdb_base.proofs.ForCallers.{and_false, each_filtered, same_site-equal, those_rise}
-use Rattle.rules_laws.proofs.ForCallers.{sites_rise}
+use Rattle.fed_rules.proofs.ForCallers.{sites_rise}
 use Rattle.coord_tables.proofs.Phases.{sites_named}
 use Rattle.record_fields.specs.Named as Fields
 

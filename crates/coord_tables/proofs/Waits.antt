@@ -22,7 +22,7 @@ use Rattle.coord_tables.specs.declared.tables.Tables.{Tables}
 use Rattle.fed_rules.specs.CoordRecords.{commits}
 use Rattle.fed_rules.specs.CoordPast.{records}
 use Rattle.ticket_graph.specs.Graph.{AreHeld, StandsFor}
-use Rattle.rules_laws.proofs.ForCallers.{counts_open}
+use Rattle.fed_rules.proofs.ForCallers.{counts_open}
 use Rattle.global_exec.specs.Agreement.{IsOfPast}
 use Rattle.coord_tables.specs.Attempts.{IsLiveAs}
 use Rattle.coord_tables.specs.Trees.{committed_in}

@@ -10,7 +10,7 @@ pub use Rattle.fed_rules.specs.Terms.{Terms, line_of, answer_of}
 use Rattle.fed_rules.specs.declared.events.CoordEvent.{CoordEvent}
 use Rattle.fed_rules.specs.declared.events.CoordEvent.TheVariants as Ev
 use Rattle.coord_laws.specs.Pasts.{IsGoingOn}
-use Rattle.rules_laws.specs.Active.{IsActive}
+use Rattle.fed_rules.specs.Active.{IsActive}
 
 -- an event that a coordinator that is up answers, and a trip may stop
 abbrev pub IsUsual : CoordEvent → Type 0

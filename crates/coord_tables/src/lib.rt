@@ -2,7 +2,8 @@
 //! the stages, the committed attempts, and the ticket graph.
 //!
 //! The tables serve a past where each of them says what the past says. A change of the tables belongs to one line of the coordinator: its
-//! contract names what it changes, and laws in `proofs/` say that the tables then serve the past with that line added.
+//! contract names what it changes, and laws in `proofs/` say that the tables then serve the past with that line added. The law of a start,
+//! which speaks of written records, stands in `coord_core`.
 //!
 //! No call touches a disk. Out of memory, a call leaves all tables listing what they listed; only `restart`, which makes the tables anew from
 //! a Sum of the records while the coordinator is down, may leave some of them made.

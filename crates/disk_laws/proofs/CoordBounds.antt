@@ -31,7 +31,7 @@ use Rattle.coord_laws.specs.Sums.{AreCoordSums}
 use Rattle.disk_laws.specs.Left.{CoordinatorsAreBelow, OfShortCoordinators}
 use Rattle.disk_laws.proofs.CoordLeft.{each_standing, stands, sums_hold}
 use Rattle.disk_laws.proofs.ReadRecords.{Commits, committed_from}
-use Rattle.rules_laws.proofs.ForCallers.{past_short}
+use Rattle.fed_rules.proofs.ForCallers.{past_short}
 use Rattle.disk_laws.proofs.SiteBounds.{AreBelow, IsBelow, pasts_below}
 
 -- a record whose tickets are those of committed attempts

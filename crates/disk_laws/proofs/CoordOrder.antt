@@ -16,7 +16,7 @@ use Rattle.fed_rules.specs.CoordPast.{CoordHappening, CoordPast, records, standi
 use Rattle.fed_rules.specs.CoordRecords.{acking, class_of, ends_at_once, has_commit, has_end, is_kept, is_nobody, named, outcome, required, required_of, ticketed}
 use Rattle.fed_rules.specs.Policies.{Policy}
 use Rattle.fed_rules.specs.Usable.{IsAnyOf, IsDecidedOf, IsEndOf}
-use Rattle.rules_laws.proofs.ForCallers.{appended}
+use Rattle.fed_rules.proofs.ForCallers.{appended}
 use Rattle.fed_rules.specs.Found.{Journal}
 use Rattle.fed_rules.specs.Reopened.{opened_coordinator}
 use Rattle.coord_laws.specs.Pasts.{IsGoingOn, IsMadeByEvents, IsNextLine}

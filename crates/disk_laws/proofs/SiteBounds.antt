@@ -25,7 +25,7 @@ use Rattle.fed_rules.specs.SiteSums.{site_sum}
 use Rattle.fed_rules.specs.Story.{past_of, story_of}
 use Rattle.fed_rules.specs.Usable as Usable
 use Rattle.engine_laws.proofs.ForCallers.{counted, counter_lines, drawn_next, draws, settling, ticket_is_next}
-use Rattle.rules_laws.proofs.ForCallers.{epoch_same, past_short}
+use Rattle.fed_rules.proofs.ForCallers.{epoch_same, past_short}
 use Rattle.site_history.specs.Events.{IsFresh, IsSorted}
 use Rattle.site_history.specs.SiteOrders.{OfSortedEvents}
 use Rattle.site_history.proofs.ForCallers.{EachAppend, IsCalm, IsLiveHere, IsWellKept, JustSyncs, Moves, append_take, begins_local, begins_work, checks_sum, commits_local, doubt_in, doubts_are, each_after, goes_on, good_answered, is_back, move_answered, no_local_doubt, of_events, pasts_summed, prepares_run, record_of, rests, settles_held, well_past}

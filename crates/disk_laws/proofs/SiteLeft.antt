@@ -21,10 +21,10 @@ use Rattle.fed_rules.specs.SitePast.{disk, journal, records}
 use Rattle.fed_rules.specs.SiteRecords.{Held, Home, Install, doubt_of, doubts, installs, kept_held, last_number, last_ticket, site_frame, start_of, ticket_owner}
 use Rattle.fed_rules.specs.SiteSums.{locals_with, site_sum}
 use Rattle.fed_rules.specs.Usable.{AreBehind, AreWithin, DoubtsApart, IsBehind, IsOfSite, IsWithin, KeepClear, LocalsOnTop, OfFronts, counted, home_of_first}
-use Rattle.engine_laws.proofs.ForCallers.{rows_apart}
-use Rattle.rules_laws.proofs.ForCallers.{standing_all}
+use Rattle.engine_laws.proofs.ForCallers.{are_doubt, rows_apart}
+use Rattle.fed_rules.proofs.ForCallers.{standing_all}
 use Rattle.site_history.specs.SiteOrders.{OfSortedEvents}
-use Rattle.site_history.proofs.ForCallers.{AllFit, Begins, DoubtsFit, IsFounded, IsSummed, IsTrimmed, StartsWell, are_doubt, doubts_are, due_install, foundation, founded, of_events, orders_past, pasts_summed, standing_trimmed, sums_front, well_past, whole_of_fronts}
+use Rattle.site_history.proofs.ForCallers.{AllFit, Begins, DoubtsFit, IsFounded, IsSummed, IsTrimmed, StartsWell, doubts_are, due_install, foundation, founded, of_events, orders_past, pasts_summed, standing_trimmed, sums_front, well_past, whole_of_fronts}
 use Rattle.site_history.specs.Sums.{AreSums, ComeInOrder, StaysBelow}
 use Rattle.disk_laws.specs.Left.{OfSites, DoubtsStandInOrder, LocalsStandInOrder, SumsAreWithin, IsFirstOfSite}
 use Rattle.disk_laws.proofs.SiteWalk.{AreWritten, written_at, written_past}

@@ -236,7 +236,7 @@ leave_once scenario good commands site home declared =
     let past = past_of home.site (story_of scenario commands) in
     let k = of_events Known pasts_known scenario commands site home declared in
     let once = (sites_serial scenario commands site home declared).once in
-    let here : home_of scenario home.site ≡ Some home = Rattle.rules_laws.proofs.ForCallers.home-again scenario site home declared in
+    let here : home_of scenario home.site ≡ Some home = Rattle.fed_rules.proofs.ForCallers.home-again scenario site home declared in
     once_counted home (records home past) (journal home past) k.counts k.starts once
     (one_local (records home past)
     (λ a b p q s. local-once stories_right scenario good commands home here a b (local-record scenario commands home a here p) s (inr p) (inr q)) once)

@@ -16,7 +16,7 @@ use Rattle.fed_rules.specs.Site.{answered, number_of, of_back, site_line, site_p
 use Rattle.fed_rules.specs.SitePast.{SiteHappening, SitePast, disk, engine_lines, epoch, epoch_start, records, trip}
 use Rattle.fed_rules.specs.SiteRecords.{Held, Home, doubt_of, epoch_of, site_frame}
 use Rattle.fed_rules.specs.Usable.{SetUpFirst}
-use Rattle.rules_laws.proofs.ForCallers.{whole_front}
+use Rattle.fed_rules.proofs.ForCallers.{whole_front}
 use Rattle.site_history.specs.Events.{AreSorted, IsFresh, IsSorted}
 use Rattle.site_history.proofs.ForCallers.{IsWellKept, JustSyncs, Moves, begins_local, begins_work, checks_sum, commits_local, goes_on, good_answered, is_back, move_answered, no_local_doubt, prepares_run, rests, sealed_above, settles_held, well_past}
 

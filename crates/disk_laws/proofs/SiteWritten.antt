@@ -10,7 +10,7 @@ use Rattle.fed_rules.specs.SitePast.{journal, records}
 use Rattle.fed_rules.specs.SiteRecords.{Held, Home, epoch_of}
 use Rattle.fed_rules.specs.SiteSums.{carried, site_sum}
 use Rattle.fed_rules.specs.Usable.{EpochsRise, SetUpFirst, read}
-use Rattle.rules_laws.proofs.ForCallers.{epoch_same}
+use Rattle.fed_rules.proofs.ForCallers.{epoch_same}
 use Rattle.site_history.proofs.ForCallers.{IsFounded, foundation, founded, of_events, pasts_summed}
 use Rattle.site_history.specs.Sums.{AreSums}
 use Rattle.disk_laws.specs.Left.{OfSites, OneSetup, EpochsStandInOrder}

@@ -5,6 +5,8 @@ pub use Rattle.engine_laws.proofs.AloneAt.{IsAlone, access_granted, access_of, a
 pub use Rattle.engine_laws.proofs.ByNumber.{StaysClear, below, falls_inserted, is_later}
 pub use Rattle.engine_laws.proofs.Conflicts.{read_conflicts, read_none, write_conflicts, written_rows}
 pub use Rattle.engine_laws.proofs.Counted.{counted, counter_grows}
+pub use Rattle.engine_laws.proofs.Doubted.{are_doubt, doubt_among, doubt_tid, each_by_tid, each_doubt}
+pub use Rattle.engine_laws.proofs.DoubtedOnce.{each_held, once_doubts}
 pub use Rattle.engine_laws.proofs.Drawers.{AllDrew, IsDrawer, all_drew, drawer, drawer_keeps, each_aborted, same_age}
 pub use Rattle.engine_laws.proofs.EachRule.{always_may_restart, always_serial, placed, sound}
 pub use Rattle.engine_laws.proofs.Epochs.{history}

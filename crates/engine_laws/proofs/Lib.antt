@@ -5,6 +5,8 @@ mod ByNumber
 mod Commits
 mod Conflicts
 mod Counted
+mod Doubted
+mod DoubtedOnce
 mod Drawers
 mod EachRule
 mod Epochs

@@ -1,6 +1,9 @@
 //! The serial laws of strict two-phase locking with wait-die, strict timestamp order, backward validation with prepared runs and
 //! multiversion timestamp order: theorems on the definitions alone, over every good start and every list of right lines. A law is the
 //! contract of a function with an empty body. `docs/RULES.md` tells each one and the idea of its proof.
+//!
+//! A restart begins with the transactions that a site's records leave in doubt. Lemmas in `proofs/` say which these are, and that each is
+//! one attempt's.
 #![tactic(auto)]
 
 mod every_rule;

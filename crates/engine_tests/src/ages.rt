@@ -1,10 +1,9 @@
 //! Each call once, where it finds memory.
 ghost use Rattle.std.specs.Prelude.{◌≡◌};
 
-use access_ages::{AccessAges, KeyAges, TicketAges};
 use fed_rules::Kept;
 use mdb_base::{Key, PlainAct, Put, Puts, Reply, Tid, Tx, Why};
-use run_book::{Counters, Granted, HeldRun, Rival};
+use run_book::{AccessAges, Counters, Granted, HeldRun, KeyAges, Rival, TicketAges};
 use std::slice;
 use std::test::Fail;
 

@@ -27,7 +27,7 @@ use Rattle.fed_messages.specs.declared.Envelope.{Envelope}
 use Rattle.fed_messages.specs.declared.Packet.{Packet}
 use Rattle.global_exec.specs.Pasts.{IsAmong}
 use Rattle.journal_disk.specs.Disk.{Seen}
-use Rattle.rules_laws.proofs.ForCallers.{BeginsNothing}
+use Rattle.fed_rules.proofs.ForCallers.{BeginsNothing}
 use Rattle.coord_tables.specs.Terms.{line_of}
 use Rattle.global_manager.specs.declared.asks.CoordAsk.{CoordAsk}
 use Rattle.global_manager.specs.declared.manager.GlobalManager.{GlobalManager}

@@ -12,7 +12,7 @@ use Rattle.fed_rules.specs.Site.{site_line}
 use Rattle.fed_rules.specs.SiteCommands.{answer_to, past_behind}
 use Rattle.fed_rules.specs.SitePast.{attempts_of, begins_tx}
 use Rattle.fed_messages.specs.declared.Envelope.{Envelope}
-use Rattle.rules_laws.proofs.ForCallers.{BeginsNone}
+use Rattle.fed_rules.proofs.ForCallers.{BeginsNone}
 use Rattle.site_core.specs.Made.{IsGoingOn}
 use Rattle.fed_hosts.specs.declared.site_actor.LineParts.{LineParts}
 use Rattle.fed_hosts.specs.Carrying.{IsTold}

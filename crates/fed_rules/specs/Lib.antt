@@ -81,5 +81,16 @@ pub mod GoingOn
 pub mod Endings
 -- the headline
 pub mod Headline
+-- What the definitions mean.
+-- what survives on a disk that may stop after any call
+pub mod Durable
+-- that the past of a site is one that events make
+pub mod Pasts
+-- what each command makes happen: a line at an event that it asked for, or none
+pub mod Lines
+-- which messages speak of an attempt that the coordinator has to know
+pub mod Heard
+-- which attempts are active at the coordinator
+pub mod Active
 pub mod OwnPrograms
 pub mod Terms

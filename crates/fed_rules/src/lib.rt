@@ -1,20 +1,26 @@
 //! The rules of the federation: the plain types of events, answers, messages, records and lines, and in `specs/` the definitions
-//! that every contract cites. There is no code here but types.
+//! that every contract cites. There is no code here but types, and laws that show that the definitions mean what they say: each is
+//! the contract of a function with an empty body.
 #![tactic(auto)]
 
 mod answers;
 mod commands;
+mod coordinator_laws;
 mod copies;
+mod disk_laws;
 mod events;
 mod messages;
 mod records;
 mod report;
 mod runs;
 mod scenario;
+mod site_laws;
 mod sums;
 
 pub use answers::{Answer, Cause};
 pub use commands::{Command, Line, Place, Stamped};
+pub use coordinator_laws::counted_messages_are_about_known_attempts;
+pub use disk_laws::{stops_keep_the_oldest, synced_records_survive};
 pub use events::{CoordEvent, CoordStep, SiteEvent, SiteStep};
 use mdb_base::{Few, FewRising, ListOf, SiteRows};
 pub use messages::{Due, FromSite, Sent, ToSite};
@@ -22,6 +28,7 @@ pub use records::{CoordRecord, SiteRecord};
 pub use report::{Outcome, Report, TxReads};
 pub use runs::{Doubt, Kept, Sealed};
 pub use scenario::{ItemLine, LinkLine, Scenario, SiteLine, StopLine, TxLine};
+pub use site_laws::{each_line_is_asked_for, pasts_are_made_by_events};
 pub use sums::{CommittedAttempt, CoordSum, DoubtfulSum, OpenAttempt, SiteSum};
 
 /// Places of sent messages, in the order in which they are printed.

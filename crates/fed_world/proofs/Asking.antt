@@ -9,7 +9,7 @@ use Rattle.mdb_base.specs.Words.{given, item_at, map_some}
 use Rattle.mdb_base.proofs.ForCallers.{given_none, given_some, same_site-refl, some_parts}
 use Rattle.order_laws.specs.Chains.{In}
 use Rattle.order_laws.proofs.ForCallers.{item_at-in}
-use Rattle.rules_laws.proofs.ForCallers.{home-again, its-site}
+use Rattle.fed_rules.proofs.ForCallers.{home-again, its-site}
 use Rattle.fed_rules.specs.declared.answers.Answer.TheVariants as Say
 use Rattle.fed_rules.specs.declared.commands.Command.{Command}
 use Rattle.fed_rules.specs.declared.commands.Command.TheVariants as Cmd

@@ -22,7 +22,7 @@ use Rattle.fed_rules.specs.Reopened.{opened_coordinator, opened_site}
 use Rattle.fed_rules.specs.Resumed.{plan_of}
 use Rattle.fed_rules.specs.Scenarios.{policy, protocols, sites}
 use Rattle.fed_rules.specs.SiteRecords.{Home}
-use Rattle.rules_laws.proofs.ForCallers.{home-again, its-site}
+use Rattle.fed_rules.proofs.ForCallers.{home-again, its-site}
 use Rattle.journal_disk.specs.Disk.{Image, Seen}
 use Rattle.actor_store.specs.declared.errors.StepErr.{StepErr}
 use Rattle.actor_store.specs.declared.errors.StepErr.TheVariants as Step_err

@@ -19,7 +19,7 @@ use Rattle.fed_rules.specs.Plans.{IsScenario, declares, has_site, is_between}
 use Rattle.fed_rules.specs.Scenarios.{home_in, home_of, items_of, protocols, protocols_in, sites}
 use Rattle.fed_rules.specs.SiteRecords.{Home}
 use Rattle.world_laws.proofs.ForCallers.{homed, homeless}
-use Rattle.rules_laws.proofs.ForCallers.{sites_rise}
+use Rattle.fed_rules.proofs.ForCallers.{sites_rise}
 use Rattle.commit_laws.proofs.ForCallers.{by_site, members_rise}
 use Rattle.local_dbms.specs.Stands.{home_from}
 

@@ -25,7 +25,7 @@ use Rattle.fed_rules.specs.Reopened.{commit_read, end_read, initiation_read, is_
 use Rattle.fed_rules.specs.Reopened as Reopened
 use Rattle.fed_rules.specs.Resumed.{all_names, begun, names, sites_name}
 use Rattle.fed_rules.specs.Usable as Usable
-use Rattle.rules_laws.proofs.ForCallers.{Rises, each_distinct, each_in, in_each, in_rising, in_with, rises_one, rising_in, rising_rises, with_in}
+use Rattle.fed_rules.proofs.ForCallers.{Rises, each_distinct, each_in, in_each, in_rising, in_with, rises_one, rising_in, rising_rises, with_in}
 use Rattle.coord_laws.proofs.ForCallers.{read_is}
 use Rattle.journal_disk.specs.Disk.{Image}
 use Rattle.frame_journal.specs.Journal.{Kept, records}

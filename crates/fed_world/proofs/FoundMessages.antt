@@ -39,7 +39,7 @@ use Rattle.found_laws.specs.FoundSessions.{AreUsable, IsOfFormat}
 use Rattle.found_laws.proofs.ForCallers.{IsDecide, begins as begins_so, begins_nothing, closed_standing, decisions_alone, each_here, fits, idle, nobody_on, plan_sites, rise_all, session_begins}
 use Rattle.fed_rules.specs.Coord.{coord_line}
 use Rattle.fed_rules.specs.Reopened.{opened_coordinator}
-use Rattle.rules_laws.proofs.ForCallers.{BeginsNothing, with_in}
+use Rattle.fed_rules.proofs.ForCallers.{BeginsNothing, with_in}
 use Rattle.site_journal.specs.Spelling.{IsRecord}
 use Rattle.local_dbms.specs.Found.{found_programs}
 use Rattle.local_dbms.specs.Stands.{OwnPrograms, own_programs}

@@ -27,10 +27,10 @@ use Rattle.fed_rules.specs.SiteRecords.{Held, Home, doubt_of, site_frame}
 use Rattle.fed_rules.specs.SiteSums.{carried}
 use Rattle.fed_rules.specs.Story.{home_found, past_of, story_in}
 use Rattle.fed_rules.specs.Usable.{AreParted, HaveSums, IsGlobalOf, IsLocalOf, IsOfSite, IsUsableSite, SumsFit, counted, home_of_first}
-use Rattle.rules_laws.specs.Durable.{IsFirm}
+use Rattle.fed_rules.specs.Durable.{IsFirm}
 use Rattle.commit_laws.proofs.ForCallers.{IsSealing, held-prepared, new-prepared, site-lines}
 use Rattle.commit_laws.specs.Records.{IsLooseEnded, IsPrepared}
-use Rattle.rules_laws.proofs.ForCallers.{expanded}
+use Rattle.fed_rules.proofs.ForCallers.{expanded}
 use Rattle.site_history.proofs.ForCallers.{all_sums, foundation, no_local_doubt, opened_is, torn_short, well_on}
 use Rattle.site_journal.specs.Spelling.{IsRecord}
 use Rattle.found_laws.specs.FoundSessions.{AreOfDisks, AreUsable, IsOfFormat}

@@ -7,7 +7,7 @@ use Rattle.fed_rules.specs.Reopened.{first_of, opened_site}
 use Rattle.fed_rules.specs.SitePast.{SiteHappening, SitePast, disk}
 use Rattle.fed_rules.specs.SiteRecords.{Home, site_frame}
 use Rattle.fed_rules.specs.Usable.{home_of_first}
-use Rattle.rules_laws.proofs.ForCallers.{bytes-more, whole_all}
+use Rattle.fed_rules.proofs.ForCallers.{bytes-more, whole_all}
 use Rattle.site_core.specs.Made.{IsGoingOn, IsOpened}
 use Rattle.site_core.proofs.ForCallers.{opened_firm, stands_behind, trimmed_off}
 use Rattle.session_report.proofs.ForCallers.{IsMarked, IsUnmarked, marked_first, marked_line}

@@ -12,7 +12,7 @@ use Rattle.fed_rules.specs.Found.{nothing}
 use Rattle.fed_rules.specs.Sessions.{fresh}
 use Rattle.fed_rules.specs.Scenarios.{home_of, sites}
 use Rattle.fed_rules.specs.SiteRecords.{Home}
-use Rattle.rules_laws.proofs.ForCallers.{its-site}
+use Rattle.fed_rules.proofs.ForCallers.{its-site}
 use Rattle.world_laws.proofs.ForCallers.{homeless}
 use Rattle.journal_disk.specs.Disk.{IsSound, Seen}
 use Rattle.any_engine.specs.declared.engine.AnyEngine.{AnyEngine}

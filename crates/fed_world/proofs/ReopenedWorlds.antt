@@ -26,7 +26,7 @@ use Rattle.fed_rules.specs.SitePast.{SitePast}
 use Rattle.fed_rules.specs.SiteRecords.{Home}
 use Rattle.fed_rules.specs.Story.{coord_past, first_story, past_of}
 use Rattle.fed_rules.specs.Usable.{IsOfSite, IsUsableCoordinator, IsUsableSite, home_of_first}
-use Rattle.rules_laws.proofs.ForCallers.{home-again, its-site}
+use Rattle.fed_rules.proofs.ForCallers.{home-again, its-site}
 use Rattle.journal_disk.specs.Disk.{Image, Seen}
 use Rattle.journal_disk.specs.Frames.{AreWhole}
 use Rattle.frame_journal.specs.Journal.{Kept, records}

@@ -19,7 +19,7 @@ use Rattle.fed_rules.specs.Resumed.{begun}
 use Rattle.fed_rules.specs.Scenarios.{policy, protocols}
 use Rattle.fed_rules.specs.Sessions.{Session, fresh}
 use Rattle.fed_rules.specs.Story.{coord_past, story_in}
-use Rattle.rules_laws.proofs.ForCallers.{rising_in}
+use Rattle.fed_rules.proofs.ForCallers.{rising_in}
 use Rattle.coord_laws.proofs.ForCallers.{known_begun}
 use Rattle.coord_tables.specs.Terms.{IsSound, Terms}
 use Rattle.session_report.proofs.ForCallers.{decision_is}

@@ -10,7 +10,7 @@ use Rattle.order_laws.specs.Chains.{In}
 use Rattle.fed_rules.specs.declared.commands.Place.{Place}
 use Rattle.fed_rules.specs.declared.messages.Sent.{Sent}
 use Rattle.fed_rules.specs.declared.messages.ToSite.{ToSite}
-use Rattle.rules_laws.proofs.ForCallers.{OverSends, none_to}
+use Rattle.fed_rules.proofs.ForCallers.{OverSends, none_to}
 use Rattle.session_routes.specs.declared.traffic.Traffic.{Traffic}
 use Rattle.session_routes.specs.Posting.{message_to, place_to, places_to}
 use Rattle.fed_world.proofs.SeatLines.{rises_on}

@@ -13,7 +13,7 @@ use Rattle.fed_rules.specs.Plans.{IsScenario}
 use Rattle.fed_rules.specs.Scenarios.{home_of, sites}
 use Rattle.fed_rules.specs.SitePast.{SitePast, set_up_calls}
 use Rattle.fed_rules.specs.SiteRecords.{Home}
-use Rattle.rules_laws.proofs.ForCallers.{its-site}
+use Rattle.fed_rules.proofs.ForCallers.{its-site}
 use Rattle.journal_disk.specs.Disk.{Seen}
 use Rattle.any_engine.specs.declared.engine.AnyEngine.{AnyEngine}
 use Rattle.any_engine.specs.Stands as Engines

@@ -28,7 +28,7 @@ use Rattle.any_engine.specs.declared.engine.AnyEngine.{AnyEngine}
 use Rattle.any_engine.specs.Stands as Engines
 use Rattle.conservative_take.specs.AnyPolicies.{policy_is}
 use Rattle.conservative_take.specs.declared.any_policy.AnyPolicy.{AnyPolicy}
-use Rattle.rules_laws.proofs.ForCallers.{sites_rise}
+use Rattle.fed_rules.proofs.ForCallers.{sites_rise}
 use Rattle.global_manager.specs.declared.manager.GlobalManager.{GlobalManager}
 use Rattle.global_manager.specs.Stands as Manager
 use Rattle.local_dbms.specs.declared.asks.SiteAsk.{SiteAsk}

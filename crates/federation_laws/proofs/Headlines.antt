@@ -28,13 +28,13 @@ use Rattle.commit_laws.proofs.ForCallers.{begun_global, coord-sound, nowhere}
 use Rattle.coord_laws.proofs.ForCallers.{commit_among, commit_mark}
 use Rattle.site_history.specs.SiteOrders.{IsSerialPast}
 use Rattle.site_history.specs.Stories.{OfSites}
-use Rattle.site_history.proofs.ForCallers.{doubt_among}
+use Rattle.engine_laws.proofs.ForCallers.{doubt_among}
 use Rattle.federation_laws.specs.OneOrder.{AllAreOrdered, HasOneOrder, OneAttemptEach}
 use Rattle.federation_laws.proofs.Declared.{member-declared, order-in, order-of}
 use Rattle.federation_laws.proofs.ScenarioFacts.{global_program-is, program_fits}
 use Rattle.federation_laws.proofs.SiteParts.{tells-outcomes}
 use Rattle.federation_laws.proofs.Told.{home-again}
-use Rattle.rules_laws.proofs.ForCallers.{in_each}
+use Rattle.fed_rules.proofs.ForCallers.{in_each}
 
 -- the members of each site's order stand in each merge
 member_merged : (scenario : Scenario) (story : Story) (order : List Tid) → IsMerge scenario story order → (site : SiteId) (tid : Tid)

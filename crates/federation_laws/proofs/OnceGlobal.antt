@@ -19,8 +19,8 @@ use Rattle.federation_laws.proofs.StoryGlobals.{coord-made}
 use Rattle.federation_laws.proofs.Told.{IsLine, line_is}
 use Rattle.std.proofs.lemmas.Bool.{or_left}
 use Rattle.mdb_base.proofs.ForCallers.{same_tid-equal, same_tx-from}
-use Rattle.rules_laws.specs.Active.{IsActive}
-use Rattle.rules_laws.proofs.ForCallers.{none_committed}
+use Rattle.fed_rules.specs.Active.{IsActive}
+use Rattle.fed_rules.proofs.ForCallers.{none_committed}
 
 -- no two attempts of one transaction are so, and who is undecided was begun
 pub record OnceHolds (past : CoordPast) : Type 0 where

@@ -36,7 +36,7 @@ use Rattle.fed_rules.specs.CoordPast.{CoordHappening, CoordPast, Standing, Undec
 use Rattle.fed_rules.specs.CoordRecords.{coord_frame, commits}
 use Rattle.fed_rules.specs.Happenings.{Trip, quiet, is_down, stopped, tripped}
 use Rattle.fed_rules.specs.Policies.{Policy}
-use Rattle.rules_laws.proofs.ForCallers.{undecided_open}
+use Rattle.fed_rules.proofs.ForCallers.{undecided_open}
 
 -- the attempt that the line is about is undecided, and may take tickets
 pub record MayTake (protocols : List Participant) (policy : Policy) (past : CoordPast) (event : CoordEvent) (tid : Tid) : Type 0 where

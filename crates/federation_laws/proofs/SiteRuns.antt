@@ -14,7 +14,7 @@ use Rattle.fed_rules.specs.Runs.{Access, Run, run_at}
 use Rattle.fed_rules.specs.Site.{is_over}
 use Rattle.fed_rules.specs.SitePast.{SiteHappening, SitePast, disk, records, epoch, epoch_start, engine_lines, live, live_one, decides_on, ends, is_closed}
 use Rattle.fed_rules.specs.SiteRecords.{Home, site_frame, epoch_of, doubt_of, start_of}
-use Rattle.rules_laws.specs.Durable.{IsFirm}
+use Rattle.fed_rules.specs.Durable.{IsFirm}
 use Rattle.commit_laws.specs.Records.{IsLooseEnded}
 use Rattle.commit_laws.proofs.ForCallers.{Kept, Line, Wrote, epoch-grows, restored-sealed}
 use Rattle.federation_laws.proofs.SiteMoves.{run_ops, ops_of, IsFrom, Grown, Goes, Move, Same, Going, Ending, Moves}

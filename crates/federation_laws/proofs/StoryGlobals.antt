@@ -27,7 +27,7 @@ use Rattle.fed_rules.specs.SitePast.{SiteHappening, SitePast, set_up_calls, epoc
 use Rattle.fed_rules.specs.SiteRecords.{Home, site_frame}
 use Rattle.fed_rules.specs.Story.{Story, Happened, AtSite, AtCoordinator, Nowhere, past_of, with_site, coord_past, sent_to, sends_to, sent_from, sends_from, story_of}
 use Rattle.commit_laws.specs.Records.{IsLooseEnded}
-use Rattle.rules_laws.proofs.ForCallers.{firm_quiet}
+use Rattle.fed_rules.proofs.ForCallers.{firm_quiet}
 use Rattle.commit_laws.proofs.ForCallers.{Line, site-lines}
 use Rattle.federation_laws.proofs.Agreement.{Agrees, agrees-site}
 use Rattle.federation_laws.proofs.CoordAgreement.{agrees-coord}

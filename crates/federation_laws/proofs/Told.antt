@@ -25,9 +25,9 @@ use Rattle.fed_rules.specs.Site.{site_line, done}
 use Rattle.fed_rules.specs.SitePast.{SiteHappening, SitePast, live, live_of_tx, attempts_of}
 use Rattle.fed_rules.specs.SiteRecords.{Home}
 use Rattle.fed_rules.specs.Story.{Story, Happened, AtSite, AtCoordinator, Nowhere, past_of, coord_past, sent_to, sent_from, happens, run_reads}
-use Rattle.rules_laws.specs.Lines as Lines
-pub use Rattle.rules_laws.proofs.ForCallers.{home-again, its-site as home_is-site, local-declared as local_home-declared}
-use Rattle.rules_laws.proofs.ForCallers as Asked
+use Rattle.fed_rules.specs.Lines as Lines
+pub use Rattle.fed_rules.proofs.ForCallers.{home-again, its-site as home_is-site, local-declared as local_home-declared}
+use Rattle.fed_rules.proofs.ForCallers as Asked
 
 -- what makes an event of the coordinator come
 abbrev pub CoordCause : Scenario → Story → CoordEvent → Type 0

@@ -19,7 +19,7 @@ use Rattle.fed_rules.specs.Site.{answered, site_line, of_begin, of_act, seals_lo
 use Rattle.presumptions.specs.Table.{forces}
 use Rattle.fed_rules.specs.SitePast.{SiteHappening, SitePast, disk, journal, records, trip}
 use Rattle.fed_rules.specs.SiteRecords.{Home, site_frame}
-use Rattle.rules_laws.proofs.ForCallers.{standing_all}
+use Rattle.fed_rules.proofs.ForCallers.{standing_all}
 
 -- none of the calls trims
 abbrev pub TrimNone : List (Call SiteRecord) → Type 0

@@ -22,7 +22,7 @@ use Rattle.fed_rules.specs.CoordPast.{CoordHappening, CoordPast, Standing, Undec
 use Rattle.fed_rules.specs.CoordRecords.{coord_frame}
 use Rattle.fed_rules.specs.Happenings.{Trip, is_down, quiet, stopped, tripped}
 use Rattle.fed_rules.specs.Policies.{Policy}
-use Rattle.rules_laws.proofs.ForCallers.{BeginsNothing}
+use Rattle.fed_rules.proofs.ForCallers.{BeginsNothing}
 use Rattle.coord_laws.proofs.ForCallers.{Begins, IsMade, IsOpen, is_undecided, undecided_from}
 use Rattle.commit_laws.proofs.ForCallers.{to_site}
 

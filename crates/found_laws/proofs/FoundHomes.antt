@@ -18,7 +18,7 @@ use Rattle.fed_rules.specs.Scenarios.{home_in, items_of, protocols_in}
 use Rattle.fed_rules.specs.SitePast.{SitePast}
 use Rattle.fed_rules.specs.SiteRecords.{Home}
 use Rattle.fed_rules.specs.Story.{AtSite, Story, found_site, found_sites, home_found, past_of, untold}
-use Rattle.rules_laws.proofs.ForCallers.{MembersRise}
+use Rattle.fed_rules.proofs.ForCallers.{MembersRise}
 use Rattle.commit_laws.proofs.ForCallers.{by_site, member_of, rising_on, rising_over}
 
 -- ---- their order

@@ -23,7 +23,7 @@ use Rattle.fed_rules.specs.Scenarios.{home_in, items_of}
 use Rattle.fed_rules.specs.SiteRecords.{Home}
 use Rattle.fed_rules.specs.Story.{AtSite, found_site, found_sites, home_found, past_of, untold}
 use Rattle.fed_rules.specs.Usable.{IsOfSite, IsUsableSite, home_of_first}
-use Rattle.rules_laws.proofs.ForCallers.{MembersRise}
+use Rattle.fed_rules.proofs.ForCallers.{MembersRise}
 use Rattle.commit_laws.proofs.ForCallers.{member_of, rising_from, rising_on, rising_over}
 use Rattle.found_laws.specs.FoundSessions.{AreOfDisks}
 use Rattle.found_laws.proofs.FoundHomes.{append_none, skipped, taken, told_here, told_there}

@@ -13,7 +13,7 @@ use Rattle.fed_rules.specs.Scenarios.{policy}
 use Rattle.fed_rules.specs.Site.{site_line, site_past_on}
 use Rattle.fed_rules.specs.SitePast.{SitePast}
 use Rattle.fed_rules.specs.Story.{sends_to, sent_to}
-use Rattle.rules_laws.specs.Lines.{SiteCause}
+use Rattle.fed_rules.specs.Lines.{SiteCause}
 use Rattle.commit_laws.proofs.ForCallers.{CoordinatorFits, IsNext, home-again, linked, protocols_rise}
 use Rattle.site_history.specs.Events.{AreSorted, IsSorted}
 use Rattle.site_history.proofs.ForCallers.{sites_go_on}
@@ -35,8 +35,8 @@ use Rattle.fed_rules.specs.Sessions.{Session}
 use Rattle.fed_rules.specs.SiteRecords.{Home}
 use Rattle.fed_rules.specs.Story.{AtCoordinator, AtSite, Happened, Nowhere, Story, coord_past, happens, past_of, story_in, with_site}
 use Rattle.fed_rules.specs.Usable.{home_of_first}
-use Rattle.rules_laws.specs.Lines.{IsLine}
-use Rattle.rules_laws.proofs.ForCallers.{line_is}
+use Rattle.fed_rules.specs.Lines.{IsLine}
+use Rattle.fed_rules.proofs.ForCallers.{line_is}
 use Rattle.coord_laws.specs.Pasts.{IsOpened}
 use Rattle.coord_laws.proofs.ForCallers.{usable_go_on}
 use Rattle.site_history.specs.FoundSites.{IsFoundSite}

@@ -9,7 +9,7 @@ use Rattle.fed_rules.specs.Resumed.{plan_of}
 use Rattle.fed_rules.specs.Scenarios.{global_program, local_home}
 use Rattle.fed_rules.specs.SiteRecords.{Home}
 use Rattle.fed_rules.specs.Story.{Story}
-use Rattle.rules_laws.proofs.ForCallers.{BeginsNothing}
+use Rattle.fed_rules.proofs.ForCallers.{BeginsNothing}
 use Rattle.commit_laws.proofs.ForCallers.{CoordCame}
 
 -- a scenario without transactions

@@ -11,7 +11,7 @@ use Rattle.fed_rules.specs.Plans.{AreSites, IsScenario, all_differ, is_between, 
 use Rattle.fed_rules.specs.Resumed.{site_line_by}
 use Rattle.fed_rules.specs.Scenarios.{protocols, protocols_in}
 use Rattle.fed_rules.specs.SiteRecords.{Home}
-use Rattle.rules_laws.proofs.ForCallers.{MembersRise}
+use Rattle.fed_rules.proofs.ForCallers.{MembersRise}
 use Rattle.coord_laws.specs.FoundCoordinators.{RiseBySite}
 use Rattle.commit_laws.proofs.ForCallers.{member_of, members_rise, rising_on, rising_over}
 

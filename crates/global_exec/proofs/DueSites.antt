@@ -10,7 +10,7 @@ use Rattle.fed_rules.specs.Site_of.{due_site}
 use Rattle.fed_rules.specs.declared.messages.Due.{Due}
 use Rattle.fed_rules.specs.declared.messages.Due.TheVariants as Due_is
 use Rattle.fed_rules.specs.CoordPast.{is_ticket, visits}
-use Rattle.rules_laws.proofs.ForCallers.{due_number}
+use Rattle.fed_rules.proofs.ForCallers.{due_number}
 use Rattle.global_exec.specs.declared.progress.Progress.{Progress}
 use Rattle.global_exec.specs.Counted.{answered, news_left}
 use Rattle.global_exec.specs.Due.{due, due_left, prepare, work, take as take_due}

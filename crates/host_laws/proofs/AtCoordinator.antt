@@ -37,7 +37,7 @@ use Rattle.fed_rules.specs.Terms.{Terms, line_of}
 use Rattle.fed_rules.specs.Site_of.{message_to}
 use Rattle.coord_tables.specs.Terms.{Terms, line_of}
 use Rattle.fed_messages.specs.declared.Envelope.{Envelope}
-use Rattle.rules_laws.proofs.ForCallers.{MembersRise}
+use Rattle.fed_rules.proofs.ForCallers.{MembersRise}
 use Rattle.host_laws.specs.CoordHistory.{IsCoordCommand}
 use Rattle.host_laws.specs.CoordPlans.{CoordPlan}
 use Rattle.host_laws.specs.CoordTurns.{CoordTurn, MayAnswer, coord_behind, coord_request, coord_sends, coord_trips_of, places_sent, taken_from, sent_to as sent_by_coordinator}

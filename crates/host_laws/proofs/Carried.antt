@@ -12,7 +12,7 @@ use Rattle.mdb_base.proofs.ForCallers.{each_all, each_map, each_of_map, each_of_
 use Rattle.order_laws.specs.Chains.{In}
 use Rattle.order_laws.proofs.ForCallers.{each_at, each_reverse as reverse_each, map_reverse}
 use Rattle.presumptions.specs.declared.Participant.{Participant}
-use Rattle.rules_laws.proofs.ForCallers.{home-again, its-site}
+use Rattle.fed_rules.proofs.ForCallers.{home-again, its-site}
 use Rattle.fed_rules.specs.declared.commands.Line.{Line}
 use Rattle.fed_rules.specs.declared.commands.Stamped.{Stamped}
 use Rattle.fed_rules.specs.declared.messages.FromSite.{FromSite}

@@ -7,7 +7,7 @@ use Rattle.mdb_base.proofs.ForCallers.{each_inserted, each_of_mapped, one_place}
 use Rattle.presumptions.specs.declared.Participant.{Participant}
 use Rattle.order_laws.specs.Chains.{In}
 use Rattle.order_laws.proofs.ForCallers.{each_at, slice_get-in}
-use Rattle.rules_laws.proofs.ForCallers.{sites_rise}
+use Rattle.fed_rules.proofs.ForCallers.{sites_rise}
 use Rattle.fed_rules.specs.declared.scenario.Scenario.{Scenario}
 use Rattle.fed_rules.specs.declared.scenario.SiteLine.{SiteLine}
 use Rattle.fed_rules.specs.Plans.{IsScenario, is_between}

@@ -37,7 +37,7 @@ use Rattle.fed_rules.specs.CoordRecords.{commits, committed_of, named, required_
 use Rattle.fed_rules.specs.Policies.{Policy}
 use Rattle.fed_rules.specs.Site_of.{due_site}
 use Rattle.mdb_base.proofs.ForCallers.{those_rise}
-use Rattle.rules_laws.proofs.ForCallers.{MembersRise, decisions_rise, sends_rise}
+use Rattle.fed_rules.proofs.ForCallers.{MembersRise, decisions_rise, sends_rise}
 use Rattle.global_exec.proofs.ForCallers.{found_rises}
 use Rattle.coord_laws.proofs.ForCallers.{outstanding_site}
 use Rattle.coord_tables.proofs.ForCallers.{found_rise}

@@ -12,7 +12,7 @@ use Rattle.fed_rules.specs.declared.commands.Place.{Place}
 use Rattle.fed_rules.specs.declared.messages.Sent.{Sent}
 use Rattle.fed_rules.specs.declared.messages.ToSite.{ToSite}
 use Rattle.fed_rules.specs.Site_of.{message_to}
-use Rattle.rules_laws.proofs.ForCallers.{MembersRise, OverSends, none_to}
+use Rattle.fed_rules.proofs.ForCallers.{MembersRise, OverSends, none_to}
 use Rattle.host_laws.proofs.SendsRise.{BySite}
 
 abbrev OverMembers : SiteId → List Participant → Type 0

@@ -18,7 +18,7 @@ use Rattle.fed_rules.specs.Scenarios.{global_program, home_of, policy, protocols
 use Rattle.fed_rules.specs.SiteRecords.{Home}
 use Rattle.fed_rules.specs.Story as Told
 use Rattle.fed_rules.specs.Story.{coord_past}
-use Rattle.rules_laws.proofs.ForCallers.{home-again, its-site}
+use Rattle.fed_rules.proofs.ForCallers.{home-again, its-site}
 use Rattle.world_laws.proofs.ForCallers.{homed}
 use Rattle.fed_rules.specs.Terms.{Terms}
 use Rattle.fed_rules.specs.OwnPrograms.{OwnPrograms, own_programs}

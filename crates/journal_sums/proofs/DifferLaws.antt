@@ -10,7 +10,7 @@ use Rattle.fed_rules.specs.declared.sums.SiteSum.{SiteSum}
 use Rattle.fed_rules.specs.SiteRecords.{Held, Home, kept_held}
 use Rattle.fed_rules.specs.SiteSums.{behind_sum, carried, journal_sum, last_sum, sum_behind}
 use Rattle.prepared_state.specs.Book.{AreApart, doubt_about}
-use Rattle.site_history.proofs.ForCallers.{once_doubts}
+use Rattle.engine_laws.proofs.ForCallers.{once_doubts}
 use Rattle.journal_sums.specs.Starts.{doubt_held}
 
 pub once_in_journal : (home : Home) (journal : List SiteRecord) → EachOnce (map kept_held (journal_sum home journal).doubtful)

@@ -1,5 +1,5 @@
 -- Those in doubt, and what a Checkpoint carries of them.
-use Rattle.std.proofs.Common.{◌≡◌, ℕ, zero, suc, Bool, true, false, cond, Option, Some, None, List, [], ◌∷◌, drop, map, refl, sym, ap, ap₂, subst, ◌∙◌, ◌⊎◌, inl, inr, arith}
+use Rattle.std.proofs.Common.{◌≡◌, ℕ, zero, suc, Bool, true, false, cond, Option, Some, List, [], ◌∷◌, drop, map, refl, sym, ap, ap₂, subst, ◌∙◌, inl, inr, arith}
 use Rattle.std.specs.Prelude.{slice_get}
 use Rattle.std.specs.declared.cmp.Ordering.TheVariants.{Less}
 use Rattle.std.specs.List.{AllByRecursion}
@@ -10,17 +10,17 @@ use Rattle.std.specs.Ordering.{is_eq}
 use Rattle.std.proofs.lemmas.Bool.Decides.{nat_tests}
 use Rattle.mdb_base.specs.declared.names.Tid.{Tid}
 use Rattle.mdb_base.specs.Names.{same_tid, tid_before, tid_cmp}
-use Rattle.mdb_base.specs.Words.{Each, found, inserted, with_some}
+use Rattle.mdb_base.specs.Words.{Each, found}
 use Rattle.mdb_base.proofs.ForCallers.{each_map, less_before, same_tid-refl}
 use Rattle.order_laws.specs.Chains.{In}
-use Rattle.order_laws.proofs.ForCallers.{before_irreflexive, in_each, is_eq-tid_cmp, ranks_tids}
+use Rattle.order_laws.proofs.ForCallers.{before_irreflexive, each_found_from, in_each, is_eq-tid_cmp, ranks_tids}
 use Rattle.engine_laws.specs.Laws.{EachOnce}
 use Rattle.fed_rules.specs.declared.records.SiteRecord.{SiteRecord}
 use Rattle.fed_rules.specs.Attempts.{each_attempt}
 use Rattle.fed_rules.specs.SiteRecords.{Held, doubt_of, doubts, held_before, kept_held, prepared_tids}
 use Rattle.fed_rules.specs.SiteSums.{carried}
-use Rattle.rules_laws.proofs.ForCallers.{AreSorted, sorted_by_tid}
-use Rattle.site_history.proofs.ForCallers.{are_doubt, doubt_tid, each_by_tid, each_found_from, once_doubts}
+use Rattle.fed_rules.proofs.ForCallers.{AreSorted, sorted_by_tid}
+use Rattle.engine_laws.proofs.ForCallers.{are_doubt, doubt_tid, each_by_tid, once_doubts}
 
 -- the next one that a Checkpoint carries, of the last ones first
 pub next_carried : (helds : List Held) (n : ℕ) (held : Held) (tid : Tid) (kept now : Option Held) → slice_get helds n ≡ Some held →
@@ -78,31 +78,6 @@ are_doubts records =
     each_by_tid (λ held. doubt_of records held.tid ≡ Some held) (found (doubt_of records) (each_attempt (prepared_tids records)))
     (each_found_from (λ held. doubt_of records held.tid ≡ Some held) (doubt_of records) (each_attempt (prepared_tids records))
     (λ tid held i e. ap (doubt_of records) (doubt_tid records tid held e) ∙ e))
-
-inserted_in : (x z : Held) (ys : List Held) → (x ≡ z) ⊎ In z ys → In z (inserted held_before x ys)
-inserted_in x z [] (inl e) = inl e
-inserted_in x z [] (inr i) = absurd i
-inserted_in x z (y ∷ ys) h = by_test (held_before y x) h (inserted_in x z ys)
-  where
-    by_test : (b : Bool) → (x ≡ z) ⊎ In z (y ∷ ys) → ((x ≡ z) ⊎ In z ys → In z (inserted held_before x ys)) → In z (cond b (y ∷ inserted held_before x ys) (x ∷ y ∷ ys))
-    by_test true (inl e) k = inr (k (inl e))
-    by_test true (inr (inl e)) k = inl e
-    by_test true (inr (inr j)) k = inr (k (inr j))
-    by_test false (inl e) k = inl e
-    by_test false (inr j) k = inr j
-
-found_in : (f : Tid → Option Held) (tids : List Tid) (held : Held) → In held.tid tids → f held.tid ≡ Some held → In held (found f tids)
-found_in f [] held i e = absurd i
-found_in f (tid ∷ tids) held (inl same) e = here (f tid) (ap f same ∙ e)
-  where
-    here : (o : Option Held) → o ≡ Some held → In held (with_some o (found f tids))
-    here None is = cc
-    here (Some other) is = inl cc
-found_in f (tid ∷ tids) held (inr i) e = behind (f tid) (found_in f tids held i e)
-  where
-    behind : (o : Option Held) → In held (found f tids) → In held (with_some o (found f tids))
-    behind None j = j
-    behind (Some other) j = inr j
 
 -- a look-up in the tree
 abbrev look : List (Tid × Held) → Tid → Option Held

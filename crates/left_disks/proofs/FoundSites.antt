@@ -7,7 +7,7 @@ use Rattle.mdb_base.proofs.ForCallers.{each_map}
 use Rattle.presumptions.specs.declared.Participant.{Participant}
 use Rattle.fed_rules.specs.declared.records.SiteRecord.{SiteRecord}
 use Rattle.fed_rules.specs.Found.{Journal}
-use Rattle.rules_laws.proofs.ForCallers.{MembersRise}
+use Rattle.fed_rules.proofs.ForCallers.{MembersRise}
 use Rattle.commit_laws.proofs.ForCallers.{rising_on, rising_over}
 use Rattle.journal_disk.specs.Disk.{Image}
 use Rattle.frame_journal.specs.Journal.{Kept, records}

@@ -16,8 +16,8 @@ use Rattle.fed_rules.specs.Site.{site_line}
 use Rattle.fed_rules.specs.SitePast as Site
 use Rattle.fed_rules.specs.SitePast.{SiteHappening, SitePast}
 use Rattle.fed_rules.specs.SiteRecords.{Home, site_frame}
-use Rattle.rules_laws.specs.Durable.{IsSound}
-use Rattle.rules_laws.proofs.ForCallers.{none_lost, whole_all}
+use Rattle.fed_rules.specs.Durable.{IsSound}
+use Rattle.fed_rules.proofs.ForCallers.{none_lost, whole_all}
 use Rattle.journal_disk.specs.Disk.{Image}
 use Rattle.frame_journal.specs.Records.{AreRecordsOf}
 use Rattle.journal_rules.specs.Stands.{record_frame}

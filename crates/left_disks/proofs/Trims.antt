@@ -12,7 +12,7 @@ use Rattle.fed_rules.specs.Policies.{Policy}
 use Rattle.fed_rules.specs.Site.{site_past}
 use Rattle.fed_rules.specs.SitePast as Site
 use Rattle.fed_rules.specs.SiteRecords.{site_frame}
-use Rattle.rules_laws.proofs.ForCallers as sites
+use Rattle.fed_rules.proofs.ForCallers as sites
 use Rattle.coord_laws.specs.Pasts.{IsMadeByEvents}
 use Rattle.coord_laws.proofs.ForCallers as coordinators
 use Rattle.site_history.specs.SiteOrders.{OfSortedEvents}

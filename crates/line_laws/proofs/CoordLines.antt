@@ -30,7 +30,7 @@ use Rattle.fed_rules.specs.CoordRecords.{class_of, coord_frame, has_abort, has_i
 use Rattle.fed_rules.specs.Disk.{Stops, after_calls}
 use Rattle.fed_rules.specs.Happenings.{Trip, quiet, stopped, tripped}
 use Rattle.fed_rules.specs.Site_of.{due_site}
-use Rattle.rules_laws.proofs.ForCallers.{due_number}
+use Rattle.fed_rules.proofs.ForCallers.{due_number}
 use Rattle.line_text.specs.Fits.{answer_fits, coordinator_sends, is_cause, is_only}
 use Rattle.coord_laws.proofs.ForCallers.{outstanding_site}
 use Rattle.line_laws.proofs.News.{now, reply_of}

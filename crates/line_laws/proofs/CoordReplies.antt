@@ -32,7 +32,7 @@ use Rattle.fed_rules.specs.CoordPast.{CoordHappening, CoordPast, begins, counted
 use Rattle.fed_rules.specs.CoordRecords.{class_of, has_initiation, named}
 use Rattle.fed_rules.specs.Happenings.{comes_up, quiet, stops}
 use Rattle.fed_rules.specs.Policies.{Policy}
-use Rattle.rules_laws.proofs.ForCallers.{due_number}
+use Rattle.fed_rules.proofs.ForCallers.{due_number}
 use Rattle.line_text.specs.Fits.{answer_fits, coordinator_sends}
 use Rattle.federation_laws.proofs.ForCallers.{left_at}
 use Rattle.line_laws.proofs.News.{NoTicket, now, reply_of, reply_ready, take_news, ticket_ready, work_news}

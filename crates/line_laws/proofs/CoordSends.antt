@@ -23,7 +23,7 @@ use Rattle.fed_rules.specs.CoordPast.{CoordHappening, CoordPast, Decided, Gone, 
 use Rattle.fed_rules.specs.CoordRecords.{is_nobody, named, required_of}
 use Rattle.fed_rules.specs.Disk.{Append, Sync}
 use Rattle.fed_rules.specs.Policies.{Policy}
-use Rattle.rules_laws.proofs.ForCallers.{due_number}
+use Rattle.fed_rules.proofs.ForCallers.{due_number}
 use Rattle.coord_laws.proofs.ForCallers.{IsOwed, all_owed}
 use Rattle.line_text.specs.Fits.{answer_fits, coordinator_sends, is_only}
 use Rattle.line_laws.proofs.Outstanding.{Ready, out_somewhere}

@@ -36,8 +36,8 @@ use Rattle.fed_rules.specs.Story.{Happened, AtSite, AtCoordinator, Nowhere, Stor
 use Rattle.coord_laws.proofs.ForCallers.{decided_awaited, records_name}
 use Rattle.commit_laws.proofs.ForCallers.{HasCalls, session_goes_on}
 use Rattle.federation_laws.proofs.ForCallers.{number_some}
-use Rattle.rules_laws.specs.Lines.{CoordCause, IsCoordLine, IsSiteLine, SiteCause}
-use Rattle.rules_laws.proofs.ForCallers.{local-declared}
+use Rattle.fed_rules.specs.Lines.{CoordCause, IsCoordLine, IsSiteLine, SiteCause}
+use Rattle.fed_rules.proofs.ForCallers.{local-declared}
 use Rattle.line_text.specs.Fits.{answer_fits, is_begin_answer, is_only}
 use Rattle.line_laws.specs.Lines.{IsHeard}
 use Rattle.line_laws.proofs.CoordFits as Coord

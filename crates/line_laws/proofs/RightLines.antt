@@ -32,8 +32,8 @@ use Rattle.fed_rules.specs.Sessions.{Session, fresh}
 use Rattle.fed_rules.specs.SitePast.{SiteHappening, trip}
 use Rattle.fed_rules.specs.SiteRecords.{Home}
 use Rattle.fed_rules.specs.Story.{Happened, AtSite, AtCoordinator, Nowhere, Story, coord_past, happens, past_of, place_from, places_of, sends_from, sent_from, sent_to, story_in, with_coordinator, with_site}
-use Rattle.rules_laws.specs.Lines.{IsLine}
-use Rattle.rules_laws.proofs.ForCallers.{line_is}
+use Rattle.fed_rules.specs.Lines.{IsLine}
+use Rattle.fed_rules.proofs.ForCallers.{line_is}
 use Rattle.line_text.specs.Fits.{answer_fits, coordinator_sends, is_cause, is_one_of, is_only, line_fits, places_fit, sending_site, sites_rise}
 use Rattle.commit_laws.proofs.ForCallers.{HasCalls, IsNext as NextIs, linked, linked-here}
 use Rattle.federation_laws.proofs.ForCallers.{declared-in}

@@ -27,8 +27,8 @@ use Rattle.fed_rules.specs.Requests.{Submits, Declines}
 use Rattle.fed_rules.specs.CoordCommands.{attempt_request}
 use Rattle.fed_rules.specs.Scenarios.{home_of}
 use Rattle.fed_rules.specs.Story.{coord_requested, on_actor, on_attempt, on_give, on_site, on_take, sent_from, sent_to}
-use Rattle.rules_laws.specs.Lines.{IsLine, SiteCause}
-use Rattle.rules_laws.proofs.ForCallers.{line_is}
+use Rattle.fed_rules.specs.Lines.{IsLine, SiteCause}
+use Rattle.fed_rules.proofs.ForCallers.{line_is}
 use Rattle.line_text.specs.Fits.{answer_fits}
 use Rattle.line_laws.proofs.Happened.{Word, site_line_fit, word}
 use Rattle.line_laws.proofs.RightLines.{state_of}

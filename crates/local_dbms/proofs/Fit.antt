@@ -17,7 +17,7 @@ use Rattle.fed_rules.specs.Site.{done, site_line}
 use Rattle.fed_rules.specs.SitePast.{SitePast, attempts_of, live, live_of_tx}
 use Rattle.fed_rules.specs.SiteRecords.{Home}
 use Rattle.journal_disk.specs.Disk.{Seen}
-use Rattle.rules_laws.proofs.ForCallers.{live_is_of}
+use Rattle.fed_rules.proofs.ForCallers.{live_is_of}
 use Rattle.actor_store.specs.declared.errors.StepErr.{StepErr}
 use Rattle.actor_store.specs.declared.errors.StepErr.TheVariants as Err_is
 use Rattle.actor_store.specs.declared.store.Standing.{Standing}

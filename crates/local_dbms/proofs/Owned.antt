@@ -12,7 +12,7 @@ use Rattle.fed_rules.specs.declared.events.SiteEvent.TheVariants as Ev
 use Rattle.fed_rules.specs.Requests.{attempt}
 use Rattle.fed_rules.specs.SitePast.{SiteHappening, SitePast, attempts_of, begins_tx}
 use Rattle.fed_rules.specs.SiteRecords.{Home}
-use Rattle.rules_laws.proofs.ForCallers.{attempts_grow}
+use Rattle.fed_rules.proofs.ForCallers.{attempts_grow}
 use Rattle.site_core.specs.Made.{IsGoingOn, IsNextLine, about, begins_tid, is_of_global, is_of_local, was_begun, was_global, was_local}
 use Rattle.site_core.specs.Stands.{Before, StopAt, Within, behind, stopped_past}
 use Rattle.site_core.proofs.ForCallers.{line_event, none_opened, trip_is, trip_line, unbegun_opened}

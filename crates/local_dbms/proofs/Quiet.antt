@@ -10,8 +10,8 @@ use Rattle.fed_rules.specs.Requests.{Request, Submits, Declines}
 use Rattle.fed_rules.specs.SiteCommands.{Verb, Begin, Step_on, Commit, Abort, Fate, own_request, request}
 use Rattle.fed_rules.specs.SitePast.{SitePast}
 use Rattle.fed_rules.specs.SiteRecords.{Home}
-use Rattle.rules_laws.specs.Lines.{Asks}
-use Rattle.rules_laws.proofs.ForCallers.{asks}
+use Rattle.fed_rules.specs.Lines.{Asks}
+use Rattle.fed_rules.proofs.ForCallers.{asks}
 use Rattle.world_laws.specs.Messages.{MaySend}
 use Rattle.world_laws.proofs.ForCallers.{own_events_silent}
 use Rattle.local_dbms.specs.declared.asks.SiteAsk.{SiteAsk}

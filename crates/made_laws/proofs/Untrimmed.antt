@@ -37,8 +37,8 @@ use Rattle.fed_rules.specs.SitePast as Site
 use Rattle.fed_rules.specs.SitePast.{SiteHappening, SitePast}
 use Rattle.fed_rules.specs.SiteRecords.{Home, site_frame}
 use Rattle.fed_rules.specs.Story.{Happened, AtCoordinator, AtSite, Nowhere, Story, coord_past, happens, past_of, story_of, with_coordinator, with_site}
-use Rattle.rules_laws.specs.Lines.{CoordCause, IsCoordLine, IsLine, IsSiteLine, SiteCause}
-use Rattle.rules_laws.proofs.ForCallers.{line_is}
+use Rattle.fed_rules.specs.Lines.{CoordCause, IsCoordLine, IsLine, IsSiteLine, SiteCause}
+use Rattle.fed_rules.proofs.ForCallers.{line_is}
 use Rattle.made_laws.specs.Unchecked.{AreUnchecked, UncheckedJournalsAreWhole, is_check}
 use Rattle.made_laws.proofs.Trimless.{TrimsNothing, Trimless, by_given, by_trip, is_trim, trimmed_stays, whole_journal}
 use Rattle.made_laws.proofs.SitesTrimNothing.{IsSiteCheck, site_trims}

@@ -11,9 +11,9 @@ use Rattle.mdb_base.proofs.ForCallers.{not_equal, same_tid-equal, same_tid-refl}
 use Rattle.fed_rules.specs.declared.runs.Kept.{Kept}
 use Rattle.fed_rules.specs.Runs.{Run, restored, restored_at}
 use Rattle.fed_rules.specs.EngineLines.{AreApart, AllApart}
-use Rattle.access_ages.specs.Takers.{ByAge, restored_takers}
+use Rattle.run_book.specs.Takers.{ByAge, restored_takers}
 use Rattle.multiversion_engine.specs.Unended.{IsOfAge, AreUnended}
-use Rattle.access_ages.proofs.ForCallers.{get-gone, get-put, restored_back}
+use Rattle.run_book.proofs.ForCallers.{get-gone, get-put, restored_back}
 
 -- the runs before and after one of them changes
 pub record ChangesOne (runs now : Tid → Option Run) (t : Tid) (was is : Option Run) : Type 0 where

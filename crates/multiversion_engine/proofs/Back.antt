@@ -7,14 +7,13 @@ use Rattle.fed_rules.specs.Runs.{Start, EngineLine, Begins, Seals, Run, begun, r
 use Rattle.fed_rules.specs.Replies.{age_of}
 use Rattle.engine_laws.proofs.ForCallers.{multiversion_by_age}
 use Rattle.fed_rules.proofs.ForCallers.{run_at_other, run_at_own}
-use Rattle.access_ages.specs.Ages.{Ages}
-use Rattle.access_ages.specs.Takers.{Takers, ByAge}
-use Rattle.access_ages.specs.Lines.{KeepsAges}
-use Rattle.access_ages.proofs.ForCallers.{follows_begins, follows_unseals}
+use Rattle.run_book.specs.Ages.{Ages}
+use Rattle.run_book.specs.Takers.{Takers, ByAge}
+use Rattle.run_book.specs.AgeLines.{KeepsAges}
+use Rattle.run_book.proofs.ForCallers.{ages-differ, follows_begins, follows_unseals, unbegins_well, unseals_well}
 use Rattle.run_book.specs.Rivals.{rival_by}
 use Rattle.run_book.specs.Held.{held_in}
 use Rattle.run_book.specs.Book.{unbegins, unseals, taken_by}
-use Rattle.run_book.proofs.ForCallers.{ages-differ, unbegins_well, unseals_well}
 use Rattle.multiversion_engine.specs.declared.engine.MultiversionEngine.{MultiversionEngine}
 use Rattle.multiversion_engine.specs.OldVersions.{Olds}
 use Rattle.multiversion_engine.specs.Unended.{AreUnended}

@@ -8,7 +8,7 @@ use Rattle.std.specs.BTreeMap.Range.{IsRangeOf}
 use Rattle.std.proofs.lemmas.Map.Keys.{le_from_not_gt}
 use Rattle.mdb_base.specs.declared.names.Tid.{Tid}
 use Rattle.mdb_base.proofs.ForCallers.{le-nat_cmp, less-nat_cmp, nat_cmp-less}
-use Rattle.access_ages.proofs.ForCallers.{get_look}
+use Rattle.run_book.proofs.ForCallers.{get_look}
 use Rattle.multiversion_engine.specs.Unended.{HasAgeWithin}
 
 -- the first run of a part of the tree, and none there

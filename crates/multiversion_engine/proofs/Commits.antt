@@ -20,7 +20,7 @@ use Rattle.run_book.specs.Tables.{kept_after}
 use Rattle.run_book.proofs.ForCallers.{kept-by_number}
 use Rattle.multiversion_engine.specs.declared.old_versions.Place.{Place}
 use Rattle.multiversion_engine.specs.OldVersions.{Olds, place_of, IsUnread, Prunes, writes_key}
-use Rattle.access_ages.specs.Takers.{ByAge}
+use Rattle.run_book.specs.Takers.{ByAge}
 use Rattle.multiversion_engine.specs.Versions.{newest, version_below, IsThere, AreVersions}
 use Rattle.multiversion_engine.proofs.KeptBelow.{newest-below, below-less, written-grows, written-least, kept-below, no_own, some_own, newer_clear}
 use Rattle.multiversion_engine.proofs.Versions.{age_some}

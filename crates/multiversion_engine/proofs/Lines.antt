@@ -7,16 +7,15 @@ use Rattle.mdb_base.specs.declared.replies.Reply.TheVariants.{Done, Value, Ticke
 use Rattle.fed_rules.specs.Runs.{Start, EngineLine, Begins, Acts, Takes, Seals, Refuses, Commits, Aborts, Run, tid_of, begun, changed, gives_up, run_at, counter}
 use Rattle.fed_rules.specs.EngineLines.{IsFree, IsRightLine}
 use Rattle.engine_laws.proofs.ForCallers.{multiversion_by_age}
-use Rattle.access_ages.specs.Ages.{Ages, ages_of, unwritten}
-use Rattle.access_ages.specs.Takers.{Takers, without_taker, ByAge}
-use Rattle.access_ages.specs.Laws.{AreNow, IsNoted, where_written}
-use Rattle.access_ages.specs.Lines.{KeepsAges}
-use Rattle.access_ages.proofs.ForCallers.{ends-none, follows_begins, follows_calls, gives_up-ends}
+use Rattle.run_book.specs.Ages.{Ages, ages_of, unwritten}
+use Rattle.run_book.specs.Takers.{Takers, without_taker, ByAge}
+use Rattle.run_book.specs.AgeLaws.{AreNow, IsNoted, where_written}
+use Rattle.run_book.specs.AgeLines.{KeepsAges}
+use Rattle.run_book.proofs.ForCallers.{age-le, ages-differ, calls_well, ends-none, follows_begins, follows_calls, gives_up-ends, run_at-held}
 use Rattle.run_book.specs.Held.{Held, held_in}
 use Rattle.run_book.specs.Book.{Book, begins, drops, commits}
 use Rattle.run_book.specs.Keeps.{Keeps}
 use Rattle.run_book.specs.Laws.{IsCalled}
-use Rattle.run_book.proofs.ForCallers.{age-le, ages-differ, calls_well, run_at-held}
 use Rattle.multiversion_engine.specs.declared.engine.MultiversionEngine.{MultiversionEngine}
 use Rattle.multiversion_engine.specs.OldVersions.{Olds, Prunes, writes_key}
 use Rattle.multiversion_engine.specs.Unended.{AreUnended}

@@ -2,9 +2,9 @@
 use Rattle.std.proofs.Common.{◌≡◌, cond, ap, ◌∙◌}
 use Rattle.mdb_base.specs.declared.names.Key.{Key}
 use Rattle.mdb_base.specs.Names.{same_key}
-use Rattle.access_ages.specs.declared.key_ages.KeyAges.{KeyAges}
-use Rattle.access_ages.specs.Ages.{Ages, ages_of, with_reader, with_writer}
-use Rattle.access_ages.specs.Laws.{AreNow, at_key}
+use Rattle.run_book.specs.declared.key_ages.KeyAges.{KeyAges}
+use Rattle.run_book.specs.Ages.{Ages, ages_of, with_reader, with_writer}
+use Rattle.run_book.specs.AgeLaws.{AreNow, at_key}
 use Rattle.run_book.specs.declared.rival.Rival.{Rival}
 
 pub read_noted : (old room new : Ages) (key : Key) (rival run : Rival) → rival ≡ run → AreNow room (ages_of old) → AreNow new (at_key key (with_reader rival) room) → AreNow new (at_key key (with_reader run) old)

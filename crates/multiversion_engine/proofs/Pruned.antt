@@ -8,7 +8,7 @@ use Rattle.fed_rules.specs.Runs.{Access, Got, Wrote}
 use Rattle.run_book.specs.Held.{written_row}
 use Rattle.multiversion_engine.specs.declared.old_versions.Place.{Place}
 use Rattle.multiversion_engine.specs.OldVersions.{Olds, place_of, IsUnread, Prunes, AllRead, writes_key}
-use Rattle.access_ages.specs.Takers.{ByAge}
+use Rattle.run_book.specs.Takers.{ByAge}
 use Rattle.multiversion_engine.specs.Unended.{HasAgeWithin, AreWithin}
 use Rattle.multiversion_engine.proofs.Places.{same_place, place-equal, self_place, version-gone}
 

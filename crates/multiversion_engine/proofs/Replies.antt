@@ -15,17 +15,16 @@ use Rattle.fed_rules.specs.Runs.{Start, EngineLine, Acts, Takes, Seals, Got, Wro
 use Rattle.fed_rules.specs.Replies.{age_of, has_written, late_or_wait, wait_for_writer, older_writers, access_stop, ticket_stop, seal_stop, seal_number, granted, granted_by, rule, or_reply, table_before}
 use Rattle.fed_rules.specs.EngineLines.{IsRightLine}
 use Rattle.engine_laws.proofs.ForCallers.{age_one_taker, multiversion_by_age}
-use Rattle.access_ages.specs.Ages.{Ages, ages_of, younger_of, with_reader, with_writer}
-use Rattle.access_ages.specs.Takers.{Takers, with_taker}
-use Rattle.access_ages.specs.Stops.{above, below, stop_by, youngest_against, writer_stop, IsTicketStop}
-use Rattle.access_ages.specs.Laws.{AreNow, at_key}
-use Rattle.access_ages.proofs.ForCallers.{stops_access, stops_reader, stops_taking}
+use Rattle.run_book.specs.Ages.{Ages, ages_of, younger_of, with_reader, with_writer}
+use Rattle.run_book.specs.Takers.{Takers, with_taker}
+use Rattle.run_book.specs.Stops.{above, below, stop_by, youngest_against, writer_stop, IsTicketStop}
+use Rattle.run_book.specs.AgeLaws.{AreNow, at_key}
+use Rattle.run_book.proofs.ForCallers.{after-own_write, run_at-held, stops_access, stops_reader, stops_taking}
 use Rattle.run_book.specs.declared.counters.Counters.{Counters}
 use Rattle.run_book.specs.declared.rival.Rival.{Rival}
 use Rattle.run_book.specs.Rivals.{rival_by}
 use Rattle.run_book.specs.Held.{Held, held_in, own_write}
 use Rattle.run_book.specs.Book.{grants, tickets, seals, taken_by}
-use Rattle.run_book.proofs.ForCallers.{after-own_write, run_at-held}
 use Rattle.site_tables.specs.declared.versions.Version.{Version}
 use Rattle.multiversion_engine.specs.declared.engine.MultiversionEngine.{MultiversionEngine}
 use Rattle.site_tables.specs.Numbers.{number_of}

@@ -16,17 +16,16 @@ use Rattle.fed_rules.specs.Replies.{has_written}
 use Rattle.fed_rules.specs.EngineLines.{IsStart, has_row}
 use Rattle.engine_contract.specs.Calls.{start_from}
 use Rattle.engine_laws.proofs.ForCallers.{has_write_written}
-use Rattle.access_ages.specs.Ages.{no_ages, restored_writer}
-use Rattle.access_ages.specs.Takers.{no_takers, restored_takers, ByAge}
-use Rattle.access_ages.specs.Laws.{AreNow}
-use Rattle.access_ages.proofs.ForCallers.{follows_starts}
+use Rattle.run_book.specs.Ages.{no_ages, restored_writer}
+use Rattle.run_book.specs.Takers.{no_takers, restored_takers, ByAge}
+use Rattle.run_book.specs.AgeLaws.{AreNow}
+use Rattle.run_book.proofs.ForCallers.{follows_starts, starts_well}
 use Rattle.site_tables.specs.declared.versions.Version.{Version}
 use Rattle.site_tables.specs.Numbers.{number_of}
 use Rattle.site_tables.specs.Tables.{is_newer}
 use Rattle.site_tables.specs.Tables.{written as written_row}
 use Rattle.run_book.specs.Book.{Book, started, table_in, number_in}
 use Rattle.run_book.specs.Tables.{kept_after}
-use Rattle.run_book.proofs.ForCallers.{starts_well}
 use Rattle.multiversion_engine.specs.declared.engine.MultiversionEngine.{MultiversionEngine}
 use Rattle.multiversion_engine.specs.declared.old_versions.Place.{Place}
 use Rattle.multiversion_engine.specs.OldVersions.{Olds, place_of, place_cmp}

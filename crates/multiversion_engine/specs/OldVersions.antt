@@ -10,7 +10,7 @@ use Rattle.fed_rules.specs.Runs.{Access}
 use Rattle.fed_rules.specs.Replies.{writes}
 use Rattle.multiversion_engine.specs.declared.old_versions.Place.{Place}
 use Rattle.multiversion_engine.specs.declared.old_versions.OldVersion.{OldVersion}
-use Rattle.access_ages.specs.Takers.{ByAge}
+use Rattle.run_book.specs.Takers.{ByAge}
 use Rattle.multiversion_engine.specs.Unended.{HasAgeWithin}
 
 -- by key, and then by number

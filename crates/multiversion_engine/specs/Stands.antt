@@ -10,9 +10,9 @@ use Rattle.mdb_base.specs.declared.replies.Reply.TheVariants.{Refused}
 use Rattle.fed_rules.specs.Runs.{Start, EngineLine, Run, tid_of, run_at, gives_up, number}
 use Rattle.fed_rules.specs.EngineLines.{IsRightLine}
 use Rattle.fed_rules.specs.Replies.{has_written}
-use Rattle.access_ages.specs.Ages.{Ages, ages_of}
-use Rattle.access_ages.specs.Stops.{key_stop, writer_stop}
-use Rattle.access_ages.specs.Lines.{KeepsAges}
+use Rattle.run_book.specs.Ages.{Ages, ages_of}
+use Rattle.run_book.specs.Stops.{key_stop, writer_stop}
+use Rattle.run_book.specs.AgeLines.{KeepsAges}
 use Rattle.run_book.specs.Held.{Held, held_in, own_write}
 use Rattle.run_book.specs.Book.{Book}
 use Rattle.run_book.specs.Keeps.{KeepsRoomy}

@@ -3,7 +3,7 @@ use Rattle.std.specs.Prelude.{ℕ, ◌≡◌, ◌<◌, ◌≤◌, Bool, true, fa
 use Rattle.std.specs.FinMap.{get}
 use Rattle.mdb_base.specs.declared.names.Tid.{Tid}
 use Rattle.fed_rules.specs.Runs.{Run}
-use Rattle.access_ages.specs.Takers.{ByAge}
+use Rattle.run_book.specs.Takers.{ByAge}
 
 -- a run of an age that is above the first number, and not above the second
 pub record HasAgeWithin (runs : ByAge) (from until : ℕ) : Type 0 where

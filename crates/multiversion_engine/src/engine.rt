@@ -2,10 +2,9 @@
 use crate::noted::{note, noted_of};
 use crate::old_versions::OldVersions;
 use crate::unended::Unended;
-use access_ages::{AccessAges, TicketAges};
 use engine_contract::{Kept, LocalEngine, SealErr, Sealed};
 use mdb_base::{Key, Memory, PlainAct, Puts, Reply, Tid};
-use run_book::{Counters, Granted, HeldRun, RunBook};
+use run_book::{AccessAges, Counters, Granted, HeldRun, RunBook, TicketAges};
 use std::alloc::Global;
 
 /// A local engine that answers a read the version of its run's age. It keeps its runs in a book, and beside it who accessed each key and
@@ -24,8 +23,8 @@ impl MultiversionEngine {
     ghost use Rattle.std.specs.FinMap.{remove};
     ghost use Rattle.mdb_base.specs.declared.names.Key.{Key};
     ghost use Rattle.fed_rules.specs.Replies.{has_written};
-    ghost use Rattle.access_ages.specs.Ages.{ages_of, unwritten};
-    ghost use Rattle.access_ages.specs.Takers.{without_taker};
+    ghost use Rattle.run_book.specs.Ages.{ages_of, unwritten};
+    ghost use Rattle.run_book.specs.Takers.{without_taker};
     ghost use Rattle.mdb_base.specs.declared.names.Engine.TheVariants.{Multiversion};
     ghost use Rattle.engine_contract.specs.Calls.{fresh_start};
     ghost use Rattle.run_book.specs.Held.{held_in};

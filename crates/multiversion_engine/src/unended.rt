@@ -1,7 +1,7 @@
 //! The unended runs by their ages.
 ghost use Rattle.std.specs.Prelude.{◌≡◌, ◌<◌, OnOk, OnErr, IfOk};
 ghost use Rattle.std.specs.FinMap.{empty, get, insert, remove};
-ghost use Rattle.access_ages.specs.Takers.{restored_takers};
+ghost use Rattle.run_book.specs.Takers.{restored_takers};
 ghost use Rattle.multiversion_engine.specs.Unended.{AreWithin};
 
 use fed_rules::Kept;
@@ -20,7 +20,7 @@ pub struct Unended {
 
 impl Model for Unended {
     ghost use Rattle.std.specs.FinMap.{from_entries};
-    ghost use Rattle.access_ages.specs.Takers.{ByAge, by_age_code};
+    ghost use Rattle.run_book.specs.Takers.{ByAge, by_age_code};
 
     ghost Value = { ByAge };
 

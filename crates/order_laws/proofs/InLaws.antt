@@ -43,6 +43,16 @@ found_there {A} {B} look x b (y ∷ ys) i e = by_look (look y) refl i (λ j. fou
     by_look (Some c) q (inl same) rest = (let both : Some c ≡ Some b = sym q ∙ (ap look same ∙ e) in let one : c ≡ b = cc in inl one)
     by_look (Some c) q (inr j) rest = inr (rest j)
 
+-- a fact of each one that is found, by the item that gives it
+pub each_found_from : {A B : Type 0} (P : B → Type 0) (look : A → Option B) (xs : List A)
+    → ((x : A) (y : B) → In x xs → look x ≡ Some y → P y) → Each P (found look xs)
+each_found_from P look [] f = tt
+each_found_from P look (x ∷ xs) f = by_look (look x) refl (each_found_from P look xs (λ z y i e. f z y (inr i) e))
+  where
+    by_look : (o : Option _) → look x ≡ o → Each P (found look xs) → Each P (with_some o (found look xs))
+    by_look None is rest = rest
+    by_look (Some y) is rest = (f x y (inl refl) is, rest)
+
 pub inserted_first : (t : Tid) (tids : List Tid) → Each (λ u. tid_before t u ≡ true) tids → inserted tid_before t tids ≡ t ∷ tids
 inserted_first t [] h = refl
 inserted_first t (u ∷ tids) h = ap (λ b. cond b (u ∷ inserted tid_before t tids) (t ∷ u ∷ tids)) (ranks_tids.one_way t u h.0)

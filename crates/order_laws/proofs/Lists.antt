@@ -122,6 +122,13 @@ pub those_in : {A : Type 0} (test : A → Bool) (t : A) (xs : List A) → In t (
 those_in test t [] i = absurd i
 those_in test t (x ∷ xs) i = those_in_step test t x xs (test x) refl i (those_in test t xs)
 
+pub distinct_those : {A : Type 0} (test : A → Bool) (xs : List A) → Distinct xs → Distinct (those test xs)
+distinct_those test [] d = tt
+distinct_those test (x ∷ xs) d = by_test (test x) (distinct_those test xs d.1) where
+  by_test : (b : Bool) → Distinct (those test xs) → Distinct (cond b (x ∷ those test xs) (those test xs))
+  by_test true rest = ((λ i. d.0 (those_in test x xs i).0), rest)
+  by_test false rest = rest
+
 in_those_step : {A : Type 0} (test : A → Bool) (t x : A) (xs : List A) (b : Bool) → test x ≡ b → In t (x ∷ xs) → test t ≡ true →
     (In t xs → In t (those test xs)) → In t (cond b (x ∷ those test xs) (those test xs))
 in_those_step test t x xs true e (inl p) h ih = inl p

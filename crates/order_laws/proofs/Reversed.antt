@@ -1,7 +1,8 @@
 -- Lists turned round, and what is put into a list.
-use Rattle.std.proofs.Common.{◌≡◌, List, [], ◌∷◌, ◌++◌, map, reverse, inl, inr, refl, sym, ◌∙◌, ap, ap₂, subst}
+use Rattle.std.proofs.Common.{◌≡◌, ◌⊎◌, List, [], ◌∷◌, ◌++◌, map, reverse, inl, inr, refl, sym, ◌∙◌, ap, ap₂, subst}
 use Rattle.mdb_base.proofs.ForCallers.{reverse_more}
-use Rattle.order_laws.specs.Chains.{In}
+use Rattle.order_laws.specs.Chains.{In, Distinct}
+use Rattle.order_laws.proofs.InLaws.{in_append}
 use Rattle.std.proofs.lemmas.List.{map_push}
 
 pub map_reverse : {A B : Type 0} (f : A → B) (xs : List A) → map f (reverse xs) ≡ reverse (map f xs)
@@ -16,6 +17,23 @@ in_push (x ∷ xs) y z (inr i) = elim (in_push xs y z i) [ inl e ↦ inl e | inr
 pub in_reverse : {A : Type 0} (xs : List A) (z : A) → In z (reverse xs) → In z xs
 in_reverse [] z i = i
 in_reverse (x ∷ xs) z i = elim (in_push (reverse xs) x z (subst (λ zs. In z zs) (reverse_more x xs) i)) [ inl e ↦ inl e | inr j ↦ inr (in_reverse xs z j) ]
+
+distinct_more : {A : Type 0} (x : A) (xs : List A) → Distinct xs → (In x xs → ⊥) → Distinct (xs ++ x ∷ [])
+distinct_more x [] d free = ((λ i. i), tt)
+distinct_more x (y ∷ xs) d free = (
+  λ i. apart (in_append y xs (x ∷ []) i),
+  distinct_more x xs d.1 (λ i. free (inr i)),
+)
+  where
+    apart : In y xs ⊎ ((x ≡ y) ⊎ ⊥) → ⊥
+    apart (inl j) = d.0 j
+    apart (inr (inl e)) = free (inl (sym e))
+    apart (inr (inr never)) = never
+
+pub distinct_reverse : {A : Type 0} (xs : List A) → Distinct xs → Distinct (reverse xs)
+distinct_reverse [] d = tt
+distinct_reverse (x ∷ xs) d =
+    subst Distinct (sym (reverse_more x xs)) (distinct_more x (reverse xs) (distinct_reverse xs d.1) (λ i. d.0 (in_reverse xs x i)))
 
 -- where two functions agree on each member, their lists are one
 pub map_same : {A B : Type 0} (f g : A → B) (xs : List A) → ((x : A) → In x xs → f x ≡ g x) → map f xs ≡ map g xs

@@ -2,7 +2,7 @@
 use Rattle.std.proofs.Common.{◌≡◌, ℕ, zero, suc, Bool, not, IsTrue, Option, Some, None, List, length, reverse, slice_get, refl, sym, ◌∙◌, subst, arith}
 use Rattle.std.proofs.lemmas.Bool.{not-false}
 use Rattle.std.specs.List.{AllByRecursion}
-use Rattle.rules_laws.proofs.ForCallers.{home-again}
+use Rattle.fed_rules.proofs.ForCallers.{home-again}
 use Rattle.fed_rules.specs.declared.commands.Command.{Command}
 use Rattle.fed_rules.specs.CoordPast as Coordinator
 use Rattle.fed_rules.specs.CoordPast.{CoordPast}

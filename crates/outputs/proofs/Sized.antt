@@ -1,7 +1,7 @@
 -- Disks that tell how many bytes they have, and what stands at a place among them.
 use Rattle.std.proofs.Common.{◌≡◌, ℕ, zero, suc, ◌<◌, Some, List, [], ◌∷◌, length, map, slice_get, refl, sym, ◌∙◌, ap, subst, arith}
 use Rattle.mdb_base.specs.declared.names.SiteId.{SiteId}
-use Rattle.rules_laws.proofs.ForCallers.{its-site}
+use Rattle.fed_rules.proofs.ForCallers.{its-site}
 use Rattle.fed_rules.specs.declared.scenario.Scenario.{Scenario}
 use Rattle.fed_rules.specs.Scenarios.{home_of}
 use Rattle.fed_rules.specs.SiteRecords.{Home}

@@ -19,8 +19,8 @@ use Rattle.fed_rules.specs.Site.{site_line}
 use Rattle.fed_rules.specs.SitePast.{SiteHappening, SitePast, attempts_of, begins_tx, records}
 use Rattle.fed_rules.specs.SiteRecords.{Home, local_of}
 use Rattle.fed_rules.specs.Story.{Story, Happened, AtSite, AtCoordinator, Nowhere, coord_past, happens, past_of, story_of}
-use Rattle.rules_laws.specs.Lines.{CoordCause, IsLine, IsCoordLine, SiteCause}
-use Rattle.rules_laws.proofs.ForCallers.{begins_nothing, line_is}
+use Rattle.fed_rules.specs.Lines.{CoordCause, IsLine, IsCoordLine, SiteCause}
+use Rattle.fed_rules.proofs.ForCallers.{begins_nothing, line_is}
 use Rattle.coord_laws.proofs.ForCallers.{begins_go}
 use Rattle.federation_laws.proofs.ForCallers.{local_home-declared}
 use Rattle.closing_laws.specs.Finished.{begun, begun_at}

@@ -4,7 +4,7 @@ use Rattle.mdb_base.proofs.ForCallers.{each_map}
 use Rattle.fed_rules.specs.declared.commands.Command.{Command}
 use Rattle.fed_rules.specs.Closing.{closed, finished_alone, is_done}
 use Rattle.fed_rules.specs.Story.{most_attempts, story_of}
-use Rattle.rules_laws.proofs.ForCallers.{begins_nothing}
+use Rattle.fed_rules.proofs.ForCallers.{begins_nothing}
 use Rattle.closing_laws.specs.AtRest.{ClosedSessionsRest}
 use Rattle.closing_laws.specs.Bound.{ClosingIsShort, FinishingIsShort, most_closing}
 use Rattle.closing_laws.specs.Finished.{AllFinished, FinishedSessionsCommit, HaveAttemptsLeft, begun}

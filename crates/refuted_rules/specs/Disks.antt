@@ -4,7 +4,7 @@ use Rattle.order_laws.specs.Chains.{In}
 use Rattle.fed_rules.specs.declared.records.SiteRecord.{SiteRecord}
 use Rattle.fed_rules.specs.Disk.{Call, Disk, after_calls}
 use Rattle.fed_rules.specs.SiteRecords.{site_frame}
-use Rattle.rules_laws.specs.Durable.{IsSound}
+use Rattle.fed_rules.specs.Durable.{IsSound}
 
 -- a record that was appended to a sound disk is gone behind these calls
 pub record LosesARecord : Type 0 where

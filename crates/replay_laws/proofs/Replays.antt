@@ -7,7 +7,7 @@ use Rattle.mdb_base.specs.Words.{those}
 use Rattle.order_laws.specs.Chains.{In}
 use Rattle.order_laws.proofs.ForCallers.{in_those, map_reverse, none_pass}
 use Rattle.std.proofs.lemmas.List.{reverse-reverse}
-use Rattle.rules_laws.proofs.ForCallers.{rising_in}
+use Rattle.fed_rules.proofs.ForCallers.{rising_in}
 use Rattle.presumptions.specs.declared.Decision.{Decision}
 use Rattle.presumptions.specs.declared.Participant.{Participant}
 use Rattle.fed_rules.specs.declared.answers.Answer.{Answer}

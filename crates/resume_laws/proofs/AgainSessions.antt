@@ -26,7 +26,7 @@ use Rattle.fed_rules.specs.SitePast as Site
 use Rattle.fed_rules.specs.SiteRecords.{Home, epoch_of, site_frame}
 use Rattle.fed_rules.specs.Story.{AtCoordinator, AtSite, Happened, Nowhere, Story, coord_past, happens, past_of, story_in, with_coordinator}
 use Rattle.fed_rules.specs.Usable.{AreUnnamed, IsUsableCoordinator, IsUsableSite, home_of_first, read}
-use Rattle.rules_laws.proofs.ForCallers.{MembersRise}
+use Rattle.fed_rules.proofs.ForCallers.{MembersRise}
 use Rattle.commit_laws.proofs.ForCallers.{IsNext, its-site, linked, member_of, protocols_rise, rising_on, rising_over, session_goes_on}
 use Rattle.closing_laws.proofs.ForCallers.{member_home}
 use Rattle.coord_laws.specs.FoundCoordinators.{RiseBySite}

@@ -25,7 +25,7 @@ use Rattle.fed_rules.specs.Happenings.{is_down, quiet, stopped, tripped}
 use Rattle.fed_rules.specs.Policies.{Policy}
 use Rattle.fed_rules.specs.Reopened.{opened_coordinator}
 use Rattle.fed_rules.specs.Usable.{IsAttemptOf, IsEndOf, coord_read}
-use Rattle.rules_laws.proofs.ForCallers.{BeginsNothing}
+use Rattle.fed_rules.proofs.ForCallers.{BeginsNothing}
 use Rattle.coord_laws.proofs.ForCallers.{IsTrimmed, among_end, any_member, end_among, going_journals_say_all, going_tells, is_fine, is_undecided, left_open, open_is, past_sound, standing_all, standing_trimmed, tidy_in_order, usable_go_on}
 use Rattle.sum_laws.proofs.ForCallers.{coordinators_read, some_coord_frame}
 use Rattle.coord_laws.specs.Pasts.{IsGoingOn, IsOpened}

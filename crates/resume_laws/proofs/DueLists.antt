@@ -17,7 +17,7 @@ use Rattle.fed_rules.specs.SiteSums.{carried, site_sum, sum_with}
 use Rattle.site_history.specs.Records.{BindOnce, TellOutcomes}
 use Rattle.site_history.proofs.ForCallers.{InstallsFall, IsDoubtful, carried_same, doubt_behind, due_distinct, due_fall, due_installed, goes_on_behind, installed_due, installs_distinct, installs_fall}
 use Rattle.engine_laws.proofs.ForCallers.{look_up_with_row}
-use Rattle.rules_laws.proofs.ForCallers.{carried_none}
+use Rattle.fed_rules.proofs.ForCallers.{carried_none}
 use Rattle.site_history.specs.Sums.{NoneIsOvertaken, StaysBelow}
 use Rattle.resume_laws.specs.Tables.{DoubtsAreClear, NumbersDiffer}
 

@@ -31,7 +31,7 @@ use Rattle.fed_rules.specs.SitePast.{records}
 use Rattle.fed_rules.specs.SiteRecords.{Held, Home, doubt_of, doubts, prepared_tids}
 use Rattle.fed_rules.specs.Story.{AtCoordinator, AtSite, Happened, Nowhere, Story, coord_past, happens, past_of, story_in, with_coordinator}
 use Rattle.fed_rules.specs.Usable.{coord_read}
-use Rattle.rules_laws.proofs.ForCallers.{BeginsNothing, each_distinct, with_in}
+use Rattle.fed_rules.proofs.ForCallers.{BeginsNothing, each_distinct, with_in}
 use Rattle.coord_laws.proofs.ForCallers.{Begins, begin_once, coord_made, names_declared, opened_begun, read_is}
 use Rattle.commit_laws.proofs.ForCallers.{IsNext, home-again, linked, protocols_rise, session_goes_on}
 use Rattle.found_laws.specs.Ranges.{AreInRange, CoordInRange, IsInRange, SiteInRange}

@@ -31,8 +31,8 @@ use Rattle.fed_rules.specs.SitePast.{records}
 use Rattle.fed_rules.specs.SiteRecords.{Held, Home, doubt_of, doubts, installs}
 use Rattle.fed_rules.specs.SiteSums.{carried, site_sum}
 use Rattle.fed_rules.specs.Story.{AtCoordinator, AtSite, Happened, Nowhere, Story, coord_past, found_sites, happens, home_found, past_of, story_in, story_of, with_site}
-use Rattle.rules_laws.specs.Lines.{IsLine}
-use Rattle.rules_laws.proofs.ForCallers.{expanded, line_is}
+use Rattle.fed_rules.specs.Lines.{IsLine}
+use Rattle.fed_rules.proofs.ForCallers.{expanded, line_is}
 use Rattle.coord_laws.specs.Pasts.{IsOpened}
 use Rattle.site_history.proofs.ForCallers.{carried_same, opened_is, torn_short}
 use Rattle.commit_laws.specs.Forgetting.{PresumptionsAreRight}

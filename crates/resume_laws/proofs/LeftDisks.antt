@@ -26,7 +26,7 @@ use Rattle.site_history.proofs.ForCallers.{home_rises, journals_say_all, of_even
 use Rattle.site_history.specs.SiteOrders.{OfSortedEvents}
 use Rattle.site_history.specs.Sums.{JournalSaysAll}
 use Rattle.disk_laws.proofs.ForCallers.{AreBelow, Behind, Counts, HasFormat, Whole, counts, epoch_below, first_founded, first_is, leave_members, locals_not_named, pasts_below, pasts_format, usable_coordinators, usable_sites}
-use Rattle.rules_laws.proofs.ForCallers.{past_short}
+use Rattle.fed_rules.proofs.ForCallers.{past_short}
 use Rattle.resume_laws.specs.Again.{HasRoom, IsFoundAgain, LeftDisksAreFound, StopsKeepOutcomes, left_after, lines_of}
 use Rattle.found_laws.specs.FoundSessions.{AreUsable, IsOfFormat, RowsRise}
 use Rattle.resume_laws.proofs.AgainSessions.{disks_of, each_journal, sessions_leave_usable, stopped_keep_outcomes}

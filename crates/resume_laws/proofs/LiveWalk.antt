@@ -18,8 +18,8 @@ use Rattle.fed_rules.specs.Site.{site_line}
 use Rattle.fed_rules.specs.SitePast.{SitePast, trip}
 use Rattle.fed_rules.specs.SiteRecords.{Home}
 use Rattle.fed_rules.specs.Story.{AtCoordinator, AtSite, Happened, Nowhere, Story, coord_past, found_sites, happens, past_of, sends_to, sent_to, story_in, with_coordinator, with_site}
-use Rattle.rules_laws.specs.Lines.{IsLine, SiteCause}
-use Rattle.rules_laws.proofs.ForCallers.{line_is}
+use Rattle.fed_rules.specs.Lines.{IsLine, SiteCause}
+use Rattle.fed_rules.proofs.ForCallers.{line_is}
 use Rattle.coord_laws.proofs.ForCallers.{coord_made}
 use Rattle.commit_laws.proofs.ForCallers.{IsNext, linked, restored-sealed}
 use Rattle.resume_laws.specs.Gentle.{IsGentle}

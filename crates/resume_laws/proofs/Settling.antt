@@ -27,7 +27,7 @@ use Rattle.fed_rules.specs.Happenings.{comes_up, quiet, stops}
 use Rattle.fed_rules.specs.SitePast.{SiteHappening, SitePast, records, trip}
 use Rattle.fed_rules.specs.SiteRecords.{Home, doubt_of}
 use Rattle.fed_rules.specs.Usable.{IsEndOf}
-use Rattle.rules_laws.proofs.ForCallers.{BeginsNothing}
+use Rattle.fed_rules.proofs.ForCallers.{BeginsNothing}
 use Rattle.commit_laws.proofs.ForCallers.{member_of, to_site, told-to}
 use Rattle.coord_laws.proofs.ForCallers.{CoordSound, Decides, Forgets, IsEnding, IsMade, IsOpen, IsTelling, Known, Now, Presumed, Restarts, Same, Starts, Stood, Stopped, Through, Turn, acked_taken, among_end, end_among, ends_for, kept_from, kept_standing, named_stays, nobody_none, same_outcome, those_among}
 use Rattle.found_laws.proofs.ForCallers.{AreDecisions, IsDecide, NobodyIsOpen, closed_standing, each_here, still_nobody}

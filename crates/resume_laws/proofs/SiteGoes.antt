@@ -16,9 +16,9 @@ use Rattle.fed_rules.specs.SitePast.{SitePast, epoch, records}
 use Rattle.fed_rules.specs.SiteRecords.{Held, Home, doubt_of, doubts, epoch_of, installs}
 use Rattle.fed_rules.specs.SiteSums.{journal_sum, last_sum, site_sum, sum_behind}
 use Rattle.fed_rules.specs.Usable.{EpochsRise, IsLocalOf, IsOfSite, IsUsableSite, counted, home_of_first, read}
-use Rattle.engine_laws.proofs.ForCallers.{rising_rows_after}
-use Rattle.rules_laws.proofs.ForCallers.{epoch_same as epoch_is}
-use Rattle.site_history.proofs.ForCallers.{are_doubts, counted_more, doubt_tid, doubts_are, read_more, records_are}
+use Rattle.engine_laws.proofs.ForCallers.{doubt_tid, rising_rows_after}
+use Rattle.fed_rules.proofs.ForCallers.{epoch_same as epoch_is}
+use Rattle.site_history.proofs.ForCallers.{are_doubts, counted_more, doubts_are, read_more, records_are}
 use Rattle.site_history.specs.FoundSites.{WritesRise}
 use Rattle.sum_laws.proofs.ForCallers.{sites_read}
 use Rattle.found_laws.specs.FoundSessions.{RowsRise}

@@ -19,7 +19,8 @@ use Rattle.fed_rules.specs.SiteRecords.{Held, Home, Install, doubt_of, doubts, e
 use Rattle.fed_rules.specs.SiteSums.{carried, site_sum}
 use Rattle.fed_rules.specs.Usable.{AreBehind, DoubtsApart, EpochsRise, HaveSums, IsBehind, IsBelow, IsGlobalOf, IsLocalOf, IsSumOfSome, IsUsableSite, IsWithin, LocalsOnTop, OnceEach, SetUpFirst, TicketsRise, counted, home_of_first, numbers, read}
 use Rattle.std.specs.Prelude.{nat_lt}
-use Rattle.site_history.proofs.ForCallers.{are_doubt, are_doubts, counted_more, doubt_tid, doubts_alike, doubts_are}
+use Rattle.engine_laws.proofs.ForCallers.{are_doubt, doubt_tid}
+use Rattle.site_history.proofs.ForCallers.{are_doubts, counted_more, doubts_alike, doubts_are}
 use Rattle.disk_laws.proofs.ForCallers.{AreHeld, OneOfTx, counts_as, doubt_numbers, once_carried}
 
 -- ---- fronts

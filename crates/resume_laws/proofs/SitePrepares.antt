@@ -21,7 +21,8 @@ use Rattle.fed_rules.specs.Site.{answered, of_ask, of_back, of_check, of_decide,
 use Rattle.fed_rules.specs.SitePast.{SiteHappening, SitePast, disk, epoch, is_local, live, records, trip}
 use Rattle.fed_rules.specs.SiteRecords.{Held, Home, doubt_of, prepared_tids, site_frame}
 use Rattle.fed_rules.specs.SiteSums.{carried}
-use Rattle.site_history.proofs.ForCallers.{EachAppend, append_take, disk_is, doubt_among, each_after}
+use Rattle.engine_laws.proofs.ForCallers.{doubt_among}
+use Rattle.site_history.proofs.ForCallers.{EachAppend, append_take, disk_is, each_after}
 use Rattle.found_laws.specs.Resuming.{IsResuming}
 
 module _ (P : Tid → Type 0) where

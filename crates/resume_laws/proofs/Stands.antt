@@ -6,8 +6,8 @@ use Rattle.mdb_base.specs.Words.{when}
 use Rattle.std.specs.Prelude.{length}
 use Rattle.fed_rules.specs.Disk.{Append, Call, CutBack, TrimFront, Stops, Sync, Disk, after_call, after_calls, before_last, bytes_of, journal, standing, whole}
 use Rattle.fed_rules.specs.Happenings.{Happening, Trip, stopped, tripped}
-use Rattle.rules_laws.specs.Durable.{IsSound}
-use Rattle.rules_laws.proofs.ForCallers.{sound_call, whole_all}
+use Rattle.fed_rules.specs.Durable.{IsSound}
+use Rattle.fed_rules.proofs.ForCallers.{sound_call, whole_all}
 
 module _ {Record : Type 0} (size : Record → ℕ) (some : (r : Record) → 0 < size r) (Based U : List Record → Type 0) (last : (r : Record) → Based (r ∷ []))
     (front : (x : Record) (newer base : List Record) → Based base → U (x ∷ (newer ++ base)) → U (newer ++ base)) where

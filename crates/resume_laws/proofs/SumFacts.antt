@@ -14,7 +14,7 @@ use Rattle.fed_rules.specs.Reopened.{first_of, local_read, owner_read, site_sum_
 use Rattle.fed_rules.specs.SiteRecords.{Held, Home, doubts, epoch_of, kept_held, last_number, last_ticket, ticket_owner}
 use Rattle.fed_rules.specs.SiteSums.{carried, locals_with, site_sum}
 use Rattle.fed_rules.specs.Usable.{AreSumsOfSome, IsBelow, IsGlobalOf, IsHeldBelow, IsLocalOf, IsSumOfSome, IsUsableSite, IsWithin, OnceEach, RiseBy, counted, home_of_first, read, OfFronts}
-use Rattle.rules_laws.proofs.ForCallers.{epoch_same}
+use Rattle.fed_rules.proofs.ForCallers.{epoch_same}
 use Rattle.site_history.proofs.ForCallers.{IsReopened, SameSays, StartsWell, all_due_same, all_read, counted_more, doubt_in, doubts_alike, doubts_are, doubts_rise, first_fit, first_says, locals_from, read_more, record_of, records_are, reopened, same_sum, says_more, sites_go_on, whole_of_fronts}
 use Rattle.site_history.specs.FoundSites.{AreToldApart, IsFoundSite, IsOf, WritesRise}
 use Rattle.disk_laws.proofs.ForCallers.{AreHeld, OneOfTx, counts_as, doubts_read, held_of, installs_read, marked, none_counts, one_inserted, others, owned, owner_counts, owner_is, rise_inserted, sum_rises, sum_told, within}

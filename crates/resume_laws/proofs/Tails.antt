@@ -25,8 +25,8 @@ use Rattle.fed_rules.specs.Site.{answered, checkpoint, of_ask, of_back, of_check
 use Rattle.fed_rules.specs.SitePast.{SiteHappening, SitePast, disk, epoch, is_local, live, records, trip}
 use Rattle.fed_rules.specs.SiteRecords.{Home, doubt_of, site_frame}
 use Rattle.fed_rules.specs.Story.{AtCoordinator, AtSite, Happened, Nowhere, Story, happens, past_of, story_in, with_site}
-use Rattle.rules_laws.specs.Lines.{IsLine, SiteCause}
-use Rattle.rules_laws.proofs.ForCallers.{line_is}
+use Rattle.fed_rules.specs.Lines.{IsLine, SiteCause}
+use Rattle.fed_rules.proofs.ForCallers.{line_is}
 use Rattle.resume_laws.specs.Gentle.{IsGentle}
 use Rattle.resume_laws.proofs.LiveWalk.{IsDormantIn, dormant_on}
 use Rattle.resume_laws.proofs.SiteGentle.{IsGentleEvent}

@@ -18,8 +18,8 @@ use Rattle.fed_rules.specs.Sessions.{Session}
 use Rattle.fed_rules.specs.Site.{site_line}
 use Rattle.fed_rules.specs.SiteRecords.{Home}
 use Rattle.fed_rules.specs.Story.{AtCoordinator, AtSite, Happened, Nowhere, Story, coord_past, happens, past_of, sends_from, sends_to, sent_from, sent_to, story_in, with_coordinator, with_site}
-use Rattle.rules_laws.specs.Lines.{IsLine, SiteCause}
-use Rattle.rules_laws.proofs.ForCallers.{line_is}
+use Rattle.fed_rules.specs.Lines.{IsLine, SiteCause}
+use Rattle.fed_rules.proofs.ForCallers.{line_is}
 use Rattle.coord_laws.proofs.ForCallers.{CoordSound, coord_lines, coord_made}
 use Rattle.commit_laws.proofs.ForCallers.{CoordCame, CoordinatorFits, IsNext, is-declared, linked, member_of, numbered, session_sound}
 use Rattle.found_laws.proofs.ForCallers.{IsDecide, IsIdle, begins_nothing, decisions_alone, local_never}

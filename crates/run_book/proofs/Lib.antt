@@ -1,4 +1,7 @@
 pub mod ForCallers
+mod AgeCommits
+mod AgeRules
+mod AgeSteps
 mod Ages
 mod Best
 mod BookLemmas
@@ -11,14 +14,24 @@ mod InOrder
 mod Installs
 mod Kept
 mod KeptRows
+mod KeyMaps
+mod Listed
+mod Live
 mod Members
 mod Numbers
+mod Outcomes
 mod Promises
+mod Readers
 mod RowLemmas
 mod RunMaps
 mod Starts
 mod Steps
 mod Tables
+mod TicketRules
+mod Tickets
+mod Trees
 mod Unended
 mod ValueLemmas
 mod Words
+mod Writers
+mod Youngest

@@ -86,13 +86,13 @@ pub get-named : (es : List (Name × Held)) (q : Tid) → held_in (from_entries (
 get-named es q = get_run (by_tid es) q ∙ look-named es q
 
 -- entries that differ at one attempt
-pub entries_put : (es fs : List (Name × Held)) (t : Tid) (held : Held) → ((q : Tid) → named fs q ≡ cond (same_tid t q) (Some held) (named es q)) → from_entries {R = tid_cmp} (by_tid fs) ≡ with_run t held (from_entries (by_tid es))
-entries_put es fs t held h =
+pub runs_put : (es fs : List (Name × Held)) (t : Tid) (held : Held) → ((q : Tid) → named fs q ≡ cond (same_tid t q) (Some held) (named es q)) → from_entries {R = tid_cmp} (by_tid fs) ≡ with_run t held (from_entries (by_tid es))
+runs_put es fs t held h =
     same_runs _ _ (λ q. get-named fs q ∙ h q
     ∙ sym (held_in-with_run (from_entries (by_tid es)) t q held ∙ ap (cond (same_tid t q) (Some held)) (get-named es q)))
 
-pub entries_gone : (es fs : List (Name × Held)) (t : Tid) → ((q : Tid) → named fs q ≡ cond (same_tid t q) None (named es q)) → from_entries {R = tid_cmp} (by_tid fs) ≡ without t (from_entries (by_tid es))
-entries_gone es fs t h =
+pub runs_gone : (es fs : List (Name × Held)) (t : Tid) → ((q : Tid) → named fs q ≡ cond (same_tid t q) None (named es q)) → from_entries {R = tid_cmp} (by_tid fs) ≡ without t (from_entries (by_tid es))
+runs_gone es fs t h =
     same_runs _ _ (λ q. get-named fs q ∙ h q
     ∙ sym (held_in-without (from_entries (by_tid es)) t q ∙ ap (cond (same_tid t q) None) (get-named es q)))
 

@@ -1,3 +1,6 @@
+pub mod AgeLaws
+pub mod AgeLines
+pub mod Ages
 pub mod Book
 pub mod Changes
 pub mod Fields
@@ -7,4 +10,6 @@ pub mod Laws
 pub mod Named
 pub mod Rivals
 pub mod Rows
+pub mod Stops
 pub mod Tables
+pub mod Takers

@@ -221,7 +221,8 @@ impl RunBook {
         run_map::unseal(&mut self.runs, tid);
         self.counter = counters.counter;
         if has_ticket {
-            self.ticket.withdraw(tid, counters.published, counters.owner);
+            self.ticket
+                .withdraw(tid, counters.published, counters.owner);
         }
     }
 

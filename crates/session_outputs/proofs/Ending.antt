@@ -19,7 +19,7 @@ use Rattle.closing.specs.Alone.{CanFinish}
 use Rattle.closing.specs.Steps.{CanClose}
 use Rattle.progress_laws.specs.Added.{ClosingAddsItsOwn, FinishingAddsItsOwn, is_of_clients, is_of_closing}
 use Rattle.progress_laws.proofs.ForCallers.{closing_begins_nothing, keeps_all}
-use Rattle.rules_laws.proofs.ForCallers.{begins_nothing}
+use Rattle.fed_rules.proofs.ForCallers.{begins_nothing}
 use Rattle.fed_world.specs.declared.world.World.{World}
 use Rattle.fed_world.specs.Faults.{faults_of}
 use Rattle.fed_world.specs.FreshWorlds.{Stands}

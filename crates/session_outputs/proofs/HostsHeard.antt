@@ -19,7 +19,7 @@ use Rattle.fed_rules.specs.declared.scenario.StopLine.{StopLine}
 use Rattle.fed_rules.specs.Plans.{IsScenario, declares, is_actor, is_declared, is_stop, stops_actor}
 use Rattle.fed_rules.specs.Scenarios.{home_in, items_of, sites}
 use Rattle.fed_rules.specs.SiteRecords.{Home}
-use Rattle.rules_laws.proofs.ForCallers.{its-site}
+use Rattle.fed_rules.proofs.ForCallers.{its-site}
 use Rattle.fed_messages.specs.declared.Envelope.{Envelope}
 use Rattle.trace_merge.specs.Traces.{Entry, IsTrace}
 use Rattle.host_laws.specs.CoordHistory.{IsCoordCommand, IsCoordHistory}

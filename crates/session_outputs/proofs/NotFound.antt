@@ -12,7 +12,7 @@ use Rattle.fed_rules.specs.SitePast.{SitePast}
 use Rattle.fed_rules.specs.SiteRecords.{Home}
 use Rattle.fed_rules.specs.Story.{coord_past, past_of, story_of}
 use Rattle.fed_rules.specs.Terms.{Terms}
-use Rattle.rules_laws.proofs.ForCallers.{pasts-made}
+use Rattle.fed_rules.proofs.ForCallers.{pasts-made}
 use Rattle.commit_laws.proofs.ForCallers.{story_made}
 use Rattle.coord_core.specs.Found as Coord_found
 use Rattle.coord_core.specs.Stands.{stopped_before, stopped_within, with_trip}

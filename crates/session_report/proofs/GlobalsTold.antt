@@ -30,9 +30,9 @@ use Rattle.fed_rules.specs.Right.{IsAnswer, IsRightStory, MayPrint, SameButCycle
 use Rattle.fed_rules.specs.Scenarios.{policy, protocols}
 use Rattle.fed_rules.specs.SiteRecords.{Home}
 use Rattle.fed_rules.specs.Story.{Story, Happened, AtSite, AtCoordinator, Nowhere, coord_past, happens, sends_from, sent_from, story_of, with_coordinator}
-use Rattle.rules_laws.specs.Lines as Lines
-use Rattle.rules_laws.proofs.ForCallers as Asked
-use Rattle.rules_laws.proofs.ForCallers.{IsNoGo}
+use Rattle.fed_rules.specs.Lines as Lines
+use Rattle.fed_rules.proofs.ForCallers as Asked
+use Rattle.fed_rules.proofs.ForCallers.{IsNoGo}
 use Rattle.coord_laws.proofs.ForCallers.{Begins, IsMade, coord_made}
 use Rattle.federation_laws.proofs.ForCallers.{begun-next, coord-made, fresh-line, is_begun, reads_of, story-holds}
 use Rattle.federation_laws.proofs.ForCallers as Fed

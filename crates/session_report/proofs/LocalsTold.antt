@@ -26,9 +26,9 @@ use Rattle.fed_rules.specs.Site.{site_line}
 use Rattle.fed_rules.specs.SitePast.{SiteHappening, SitePast, attempts_of}
 use Rattle.fed_rules.specs.SiteRecords.{Home}
 use Rattle.fed_rules.specs.Story.{Story, Happened, AtSite, AtCoordinator, Nowhere, happens, past_of, story_of}
-use Rattle.rules_laws.specs.Lines as Lines
-use Rattle.rules_laws.proofs.ForCallers as Asked
-use Rattle.rules_laws.proofs.ForCallers.{BeginsNone as NoBegin, live_is_of}
+use Rattle.fed_rules.specs.Lines as Lines
+use Rattle.fed_rules.proofs.ForCallers as Asked
+use Rattle.fed_rules.proofs.ForCallers.{BeginsNone as NoBegin, live_is_of}
 use Rattle.site_history.specs.Stories.{StoriesHaveRightLines}
 use Rattle.federation_laws.proofs.ForCallers.{local-story}
 use Rattle.session_routes.specs.declared.traffic.Traffic.{Traffic}

@@ -6,8 +6,8 @@ use Rattle.mdb_base.specs.Words.{Each, found, with_some}
 use Rattle.fed_rules.specs.declared.records.SiteRecord.{SiteRecord}
 use Rattle.fed_rules.specs.Disk.{Call, Append, Sync, CutBack, TrimFront, Stops, Disk, after_call, after_calls, before_last, bytes_of, standing, whole}
 use Rattle.fed_rules.specs.SiteRecords.{site_frame}
-use Rattle.rules_laws.specs.Durable.{IsFirm, IsSound}
-use Rattle.rules_laws.proofs.ForCallers.{IsCut, IsQuiet, Keeps, appended, bytes-more, bytes_whole, left_by_line, left_by_stop, quiet_plain, sound_call, whole_all}
+use Rattle.fed_rules.specs.Durable.{IsFirm, IsSound}
+use Rattle.fed_rules.proofs.ForCallers.{IsCut, IsQuiet, Keeps, appended, bytes-more, bytes_whole, left_by_line, left_by_stop, quiet_plain, sound_call, whole_all}
 use Rattle.session_report.specs.declared.marks.Mark.{Mark}
 use Rattle.session_report.specs.Marks.{mark_of, new_marks}
 use Rattle.session_report.proofs.LineForms.{Forms, IsUnmarked, none, forces_one, leaves_one, cuts_back, trims}

@@ -10,7 +10,7 @@ use Rattle.presumptions.specs.declared.Decision.TheVariants as Decided
 use Rattle.fed_rules.specs.declared.records.CoordRecord.{CoordRecord}
 use Rattle.fed_rules.specs.declared.records.CoordRecord.TheVariants as Rec
 use Rattle.fed_rules.specs.CoordRecords.{committed_of, has_commit, outcome}
-use Rattle.rules_laws.proofs.ForCallers.{some_committed}
+use Rattle.fed_rules.proofs.ForCallers.{some_committed}
 use Rattle.session_report.specs.Outcomes.{decision_by, is_abort, is_refused, outcomes_by}
 use Rattle.session_report.specs.Told.{Reads}
 use Rattle.session_report.proofs.Lookups.{look, tids_of}

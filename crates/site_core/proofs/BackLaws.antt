@@ -38,8 +38,9 @@ use Rattle.actor_store.specs.declared.store.Standing.{Standing}
 use Rattle.actor_store.specs.declared.store.Standing.TheVariants.{Up, Down, Failing}
 use Rattle.actor_store.specs.Store.{Called, Passes, is_up}
 use Rattle.actor_store.proofs.ForCallers.{called_stopped, from_later, from_trip, settled}
-use Rattle.rules_laws.proofs.ForCallers.{epoch_same}
-use Rattle.site_history.proofs.ForCallers.{all_within, once_doubts}
+use Rattle.fed_rules.proofs.ForCallers.{epoch_same}
+use Rattle.engine_laws.proofs.ForCallers.{once_doubts}
+use Rattle.site_history.proofs.ForCallers.{all_within}
 use Rattle.site_book.specs.Book.{Book, begun_in, committed_in, restarted}
 use Rattle.site_book.specs.Follows.{Follows, progress_by}
 use Rattle.site_core.specs.Order.{IsInOrder}

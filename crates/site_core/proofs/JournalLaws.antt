@@ -12,7 +12,7 @@ use Rattle.fed_rules.specs.SitePast as Past
 use Rattle.fed_rules.specs.SiteRecords.{Home, site_frame}
 use Rattle.fed_rules.specs.SiteSums.{journal_sum, site_sum}
 use Rattle.frame_journal.specs.Journal.{records}
-use Rattle.rules_laws.proofs.ForCallers.{standing_all}
+use Rattle.fed_rules.proofs.ForCallers.{standing_all}
 use Rattle.site_history.specs.Sums.{AreSums}
 use Rattle.site_history.proofs.ForCallers.{Begins as Stands, IsSummed, IsTrimmed, founded, standing_trimmed, sums_front}
 use Rattle.journal_sums.specs.Journals.{Begins, IsJournal, IsJournalOf}

@@ -6,7 +6,7 @@ use Rattle.fed_rules.specs.Disk.{Disk, bytes_of}
 use Rattle.fed_rules.specs.Reopened.{long_site, oldest, opened_site, site_reads_as}
 use Rattle.fed_rules.specs.SitePast.{disk}
 use Rattle.fed_rules.specs.SiteRecords.{Home, site_frame}
-use Rattle.rules_laws.proofs.ForCallers.{expanded, opened_length, opened_lost, opened_synced, opened_trimmed}
+use Rattle.fed_rules.proofs.ForCallers.{expanded, opened_length, opened_lost, opened_synced, opened_trimmed}
 use Rattle.site_history.proofs.ForCallers.{disk_is, foundation, opened_is, torn_short}
 
 -- the records with what the first one is read as are the journal before that

@@ -23,7 +23,7 @@ use Rattle.fed_rules.specs.SitePast.{SitePast}
 use Rattle.fed_rules.specs.SiteRecords.{Held, Home, doubtful_size, site_frame, site_payload}
 use Rattle.fed_rules.specs.SiteSums.{carried}
 use Rattle.fed_rules.specs.Usable.{IsUsableSite, home_of_first}
-use Rattle.rules_laws.proofs.ForCallers.{opened_journal}
+use Rattle.fed_rules.proofs.ForCallers.{opened_journal}
 use Rattle.site_history.proofs.ForCallers.{below, beside, disk_is, foundation, in_parts, opened_is, torn_short}
 use Rattle.site_history.specs.FoundSites.{WritesRise}
 use Rattle.journal_disk.specs.Disk.{Image, Seen}

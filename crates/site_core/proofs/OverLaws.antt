@@ -11,8 +11,8 @@ use Rattle.fed_rules.specs.Reopened.{all_named, long_site, opened_site, rewritte
 use Rattle.fed_rules.specs.Runs.{run_at}
 use Rattle.fed_rules.specs.SitePast.{SiteHappening, SitePast, disk, live_one, records, set_up_calls}
 use Rattle.fed_rules.specs.SiteRecords.{Held, Home, doubt_of, site_frame, start_of}
-use Rattle.rules_laws.specs.Durable.{IsFirm, IsSound}
-use Rattle.rules_laws.proofs.ForCallers.{calls_split, firm_quiet, firm_stop, sound_calls}
+use Rattle.fed_rules.specs.Durable.{IsFirm, IsSound}
+use Rattle.fed_rules.proofs.ForCallers.{calls_split, firm_quiet, firm_stop, sound_calls}
 use Rattle.site_history.proofs.ForCallers.{named_writes, restored_doubt, restored_held}
 use Rattle.commit_laws.specs.Records.{IsLooseEnded}
 use Rattle.commit_laws.proofs.ForCallers.{NotBegun, Shut, site-lines}

@@ -38,7 +38,7 @@ use Rattle.site_core.proofs.CalledLaws.{called_quiet}
 use Rattle.site_core.proofs.NotesLaws.{notes_same}
 use Rattle.site_core.proofs.OnceLaws.{AppendsOnce, once_stopped}
 use Rattle.site_core.proofs.UpLaws.{closed_same}
-use Rattle.rules_laws.proofs.ForCallers.{none_lost}
+use Rattle.fed_rules.proofs.ForCallers.{none_lost}
 use Rattle.site_history.proofs.ForCallers.{whole-all}
 use Rattle.site_core.proofs.RememberLaws.{answers_as, carries_stop, down_is, kept_records, kind_at, stop_line, trips_is, up_is}
 

@@ -10,7 +10,7 @@ use Rattle.mdb_base.specs.declared.names.Tx.{Tx}
 use Rattle.mdb_base.specs.Names.{same_tid, same_tx, tid_before, tx_cmp}
 use Rattle.mdb_base.specs.Rising.{IsRising}
 use Rattle.mdb_base.specs.Words.{Each, first_where, found, inserted, map_some, or_else}
-use Rattle.mdb_base.proofs.ForCallers.{same_tid-equal, same_tid-sym}
+use Rattle.mdb_base.proofs.ForCallers.{each_of_found, same_tid-equal, same_tid-sym}
 use Rattle.fed_rules.specs.declared.records.SiteRecord.{SiteRecord}
 use Rattle.fed_rules.specs.declared.records.SiteRecord.TheVariants as Rec
 use Rattle.fed_rules.specs.declared.runs.Doubt.{Doubt}
@@ -24,7 +24,8 @@ use Rattle.record_fields.specs.Named.{IsSite}
 use Rattle.record_fields.specs.Sums.{MaybeFits, tid_number}
 use Rattle.site_journal.specs.Spelling.{IsRecord, IsSumInRange}
 use Rattle.engine_laws.specs.Laws.{EachOnce}
-use Rattle.site_history.proofs.ForCallers.{IsFounded, each_by_tid, each_found_from, each_held, foundation, once_doubts, restored_doubt}
+use Rattle.engine_laws.proofs.ForCallers.{each_by_tid, each_held, once_doubts}
+use Rattle.site_history.proofs.ForCallers.{IsFounded, foundation, restored_doubt}
 use Rattle.prepared_state.specs.Book.{doubt_about}
 use Rattle.record_fields.specs.AttemptOrder.{before-less}
 use Rattle.journal_sums.specs.Starts.{doubt_held}
@@ -280,7 +281,7 @@ held_numbers (held ∷ other ∷ helds) r = (r.0.0, held_numbers (other ∷ held
 -- those that are found rise, once they are in order
 found_in_range : (records : List SiteRecord) → AllByRecursion IsRecord records → Each (λ held. IsTid held.tid) (found (doubt_of records) (each_attempt (prepared_tids records)))
 found_in_range records r =
-    each_found_from (λ held. IsTid held.tid) (doubt_of records) (each_attempt (prepared_tids records)) (λ tid held i e. doubt_in_range records tid held r e)
+    each_of_found (λ held. IsTid held.tid) (doubt_of records) (each_attempt (prepared_tids records)) (λ tid held e. doubt_in_range records tid held r e)
 
 pub doubts_rise : (records : List SiteRecord) → AllByRecursion IsRecord records → IsRising (λ held. tid_number held.tid) (doubts records)
 doubts_rise records r = held_numbers (doubts records) (by_tid_rises (found (doubt_of records) (each_attempt (prepared_tids records))) (found_in_range records r) (once_doubts records))

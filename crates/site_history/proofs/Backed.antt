@@ -10,8 +10,8 @@ use Rattle.fed_rules.specs.Runs.{Access, EngineLine}
 use Rattle.fed_rules.specs.SitePast.{SitePast, live}
 use Rattle.fed_rules.specs.SiteRecords.{Home}
 use Rattle.engine_laws.specs.Epochs.{Epoch}
-use Rattle.rules_laws.proofs.ForCallers.{front_of_front}
-use Rattle.rules_laws.specs.Durable.{IsFrontOf}
+use Rattle.fed_rules.proofs.ForCallers.{front_of_front}
+use Rattle.fed_rules.specs.Durable.{IsFrontOf}
 use Rattle.site_history.specs.Accesses.{acts_at, acts_of, seals}
 use Rattle.site_history.specs.Records.{BindOnce, IsBound}
 use Rattle.site_history.proofs.Backing.{IsBacked, backed_acts}

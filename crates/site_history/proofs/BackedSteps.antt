@@ -14,7 +14,7 @@ use Rattle.fed_rules.specs.Runs as Runs
 use Rattle.fed_rules.specs.Runs.{EngineLine, Seals, Commits, Aborts, Access, Run, committed, number, published, puts_of, run_at, ticket_of, tid_of}
 use Rattle.fed_rules.specs.SiteRecords.{Home, Held, Install, doubt_of, install_held, installs, last_ticket}
 use Rattle.engine_laws.specs.Epochs.{Epoch}
-use Rattle.engine_laws.proofs.ForCallers.{tid_is}
+use Rattle.engine_laws.proofs.ForCallers.{doubt_tid, tid_is}
 use Rattle.site_history.specs.Lines.{Agrees}
 use Rattle.site_history.proofs.AsSealed.{as_sealed, inserted_in, WasCommitted}
 use Rattle.site_history.proofs.Backing.{IsBacked, IsHeldRun, IsInstalledRun, IsKeptRun, beside_doubt, epochs_lines, first_lines, run_beside_line, sealed_now}
@@ -22,7 +22,6 @@ use Rattle.site_history.proofs.EpochLines.{commit_adds, commit_commits, commit_k
 use Rattle.site_history.proofs.Installs.{held_in, install_before}
 use Rattle.site_history.proofs.Records.{doubt_in, due_install, record_of}
 use Rattle.site_history.proofs.SameLists.{install_of}
-use Rattle.site_history.proofs.Starts.{doubt_tid}
 
 -- a Prepared record, with the sealing of its run
 pub backed_prepared : (home : Home) (acts : Tid → List Access) (records : List SiteRecord) (start : Runs.Start) (lines : List EngineLine)

@@ -11,14 +11,13 @@ use Rattle.fed_rules.specs.Runs as Runs
 use Rattle.fed_rules.specs.Runs.{EngineLine, Seals, Access, Run, committed, number, published, puts_of, run_at, tid_of, changed}
 use Rattle.fed_rules.specs.SiteRecords.{Home, Held, Install, doubt_of, installs, last_number, last_ticket}
 use Rattle.engine_laws.specs.Epochs.{Epoch, AreEpochs, first_rows}
-use Rattle.engine_laws.proofs.ForCallers.{IsFrom, IsNew, origins}
+use Rattle.engine_laws.proofs.ForCallers.{IsFrom, IsNew, doubt_tid, origins}
 use Rattle.site_history.specs.Lines.{Agrees}
 use Rattle.site_history.specs.Records.{Binds, IsBound}
 use Rattle.site_history.proofs.AsSealed.{as_sealed, as_was, WasCommitted}
 use Rattle.site_history.proofs.EpochLines.{committed_stays, epoch_of_lines, sealed_stays}
 use Rattle.site_history.proofs.Records.{bound_by, doubt_in, record_of}
 use Rattle.site_history.proofs.SameLists.{install_of}
-use Rattle.site_history.proofs.Starts.{doubt_tid}
 use Rattle.fed_rules.specs.declared.sums.SiteSum.{SiteSum}
 
 -- the record is the one of the run

@@ -1,6 +1,6 @@
 -- What newer records say behind older ones, and behind a Checkpoint of these.
-use Rattle.rules_laws.proofs.ForCallers.{carried_none, in_each}
-use Rattle.site_history.proofs.Restarts.{each_by_tid}
+use Rattle.fed_rules.proofs.ForCallers.{carried_none, in_each}
+use Rattle.engine_laws.proofs.ForCallers.{doubt_among, doubt_tid, each_by_tid}
 use Rattle.std.proofs.Common.{◌≡◌, ℕ, ◌⊎◌, max, Bool, true, false, cond, Option, Some, None, List, [], ◌∷◌, ◌++◌, refl, sym, ap, ap₂, ◌∙◌, subst, inl, inr, arith, ltb-true, ltb-false, lt-ltb, le-ltb}
 use Rattle.std.specs.Prelude.{nat_lt}
 use Rattle.mdb_base.specs.declared.names.Tid.{Tid}
@@ -14,7 +14,6 @@ use Rattle.fed_rules.specs.declared.records.SiteRecord.{SiteRecord}
 use Rattle.fed_rules.specs.declared.records.SiteRecord.TheVariants.{Setup, Start, Prepared, Ended, Local, Checkpoint}
 use Rattle.fed_rules.specs.SiteRecords.{Held, Install, by_number, doubt_of, prepared_tids, doubts, by_tid, held_before, install_held, installs, last_number, last_ticket, rows_after, ticket_owner}
 use Rattle.fed_rules.specs.SiteSums.{carried, epoch_with, locals_with}
-use Rattle.site_history.proofs.Starts.{doubt_tid, doubt_among}
 use Rattle.site_history.specs.Sums.{StaysBelow, HeldComes, ComeInOrder}
 use Rattle.site_history.proofs.RowsOnTop.{rows_on_top}
 use Rattle.fed_rules.specs.Attempts.{each_attempt}

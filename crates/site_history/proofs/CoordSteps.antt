@@ -1,6 +1,6 @@
 -- Each line of the coordinator: it is at its event, begins only at a `go`, counts only what may count, and asks for a vote only where all
 -- operations of a site are done.
-use Rattle.rules_laws.proofs.ForCallers.{IsSending, all_sending, some_sending}
+use Rattle.fed_rules.proofs.ForCallers.{IsSending, all_sending, some_sending}
 use Rattle.std.proofs.Common.{◌≡◌, ℕ, Bool, true, false, cond, ◌&&◌, ◌||◌, Option, Some, None, List, [], ◌∷◌, ◌++◌, drop, map, take, refl, sym, ◌∙◌, subst}
 use Rattle.std.specs.Prelude.{is_none, not, nat_le, length, nat_lt}
 use Rattle.mdb_base.specs.declared.acts.Step.{Step}
@@ -38,7 +38,7 @@ use Rattle.fed_rules.specs.Coord.{aborts, ack_counts, acked_while, again_while, 
 use Rattle.fed_rules.specs.CoordPast.{Counted, CoordHappening, CoordPast, Standing, Undecided, Decided, Gone, begins, count_at, counted, counts, did_in, disk, epoch_at, has_step_left, has_ticket_at, is_open, is_ticket, is_wait, last_epoch, outstanding, participants, prepare_at, program, reads, records, standing, take_at, trip, undecided_of, visits, vote_at, next_step, work_at}
 use Rattle.fed_rules.specs.CoordRecords.{commits, committed_of, coord_frame, is_nobody, coord_payload}
 use Rattle.fed_rules.specs.Policies.{Policy}
-use Rattle.site_history.proofs.Restarts.{each_found_from}
+use Rattle.order_laws.proofs.ForCallers.{each_found_from}
 
 -- whether the reply answers a step
 abbrev pub is_step : Counted → Bool

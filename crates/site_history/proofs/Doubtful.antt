@@ -13,11 +13,9 @@ use Rattle.fed_rules.specs.SiteRecords.{Held, doubt_of, prepared_tids, doubts, b
 use Rattle.fed_rules.specs.SiteSums.{carried}
 use Rattle.fed_rules.specs.Usable.{RiseBy}
 use Rattle.engine_laws.specs.Laws.{EachOnce}
-use Rattle.rules_laws.proofs.ForCallers.{AreSorted, sorted_by_tid}
-use Rattle.site_history.proofs.Restarts.{once_doubts}
-use Rattle.site_history.proofs.Starts.{doubt_tid}
+use Rattle.fed_rules.proofs.ForCallers.{AreSorted, sorted_by_tid}
+use Rattle.engine_laws.proofs.ForCallers.{are_doubt, doubt_tid, once_doubts}
 use Rattle.site_history.proofs.Behind.{carried_same, doubt_behind}
-use Rattle.site_history.proofs.Doubted.{are_doubt}
 
 not_before : (a b c : Tid) → tid_before a b ≡ false → tid_before b c ≡ false → tid_before a c ≡ false
 not_before a b c e f = grind arith

@@ -24,7 +24,7 @@ use Rattle.fed_rules.specs.SitePast.{SiteHappening, SitePast, disk, engine_lines
 use Rattle.fed_rules.specs.SiteRecords.{Held, Home, Install, by_number, doubt_of, install_held, installs, rows_after, site_frame, site_rows, start_of}
 use Rattle.fed_rules.proofs.ForCallers.{run_at_own}
 use Rattle.fed_rules.specs.Sessions.{fresh}
-use Rattle.engine_laws.proofs.ForCallers.{number_is, tid_is}
+use Rattle.engine_laws.proofs.ForCallers.{doubt_tid, number_is, tid_is}
 use Rattle.site_history.specs.Events.{AreSorted, IsFresh, IsSorted}
 use Rattle.site_history.specs.Lines.{Agrees}
 use Rattle.site_history.specs.SiteOrders.{OfSortedEvents}
@@ -38,7 +38,6 @@ use Rattle.site_history.proofs.Installs.{install_before}
 use Rattle.site_history.proofs.Moves.{IsMove, Moves, begins_local, begins_work, checks_sum, commits_local, goes_on, move_answered, prepares_run, rests, settles_held}
 use Rattle.site_history.proofs.Records.{due_install}
 use Rattle.site_history.proofs.RightLines.{good_answered, is_back}
-use Rattle.site_history.proofs.Starts.{doubt_tid}
 use Rattle.site_history.proofs.WellKept.{IsWellKept, well_first, well_on}
 use Rattle.site_history.specs.Sums.{ComeInOrder, HeldComes, StaysBelow}
 use Rattle.site_history.proofs.InOrderPasts.{OrdersPast, orders_on, orders_past}

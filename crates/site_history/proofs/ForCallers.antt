@@ -6,7 +6,6 @@ pub use Rattle.site_history.proofs.Backed.{appended, once_front}
 pub use Rattle.site_history.proofs.Backing.{sealed_above}
 pub use Rattle.site_history.proofs.Behind.{carried_same, doubt_behind, unsorted}
 pub use Rattle.site_history.proofs.DeclaredHomes.{home_rises}
-pub use Rattle.site_history.proofs.Doubted.{are_doubt}
 pub use Rattle.site_history.proofs.Doubtful.{are_doubts, doubts_alike, doubts_are, doubts_rise}
 pub use Rattle.site_history.proofs.EngineRows.{TabledPast, tabled_first, tabled_on, tabled_opened}
 pub use Rattle.site_history.proofs.Founded.{IsFounded, all_within, foundation, founded, whole-all}
@@ -27,10 +26,8 @@ pub use Rattle.site_history.proofs.Moves.{IsCalm, JustSyncs, Moves, begins_local
 pub use Rattle.site_history.proofs.OpenedPasts.{named_writes, opened_is}
 pub use Rattle.site_history.proofs.OpenedSites.{IsReopened, disk_is, found_says_all, front, records_are, reopened, torn_short}
 pub use Rattle.site_history.proofs.OpenedSums.{all_due_same, all_in_order, all_read, all_says, all_sums, counted_more, first_due, first_order, first_says, read_more}
-pub use Rattle.site_history.proofs.OrdersRun.{distinct_reverse}
 pub use Rattle.site_history.proofs.ReadSums.{WritesNothing, below, beside, carried_installs, in_parts, says_sum}
 pub use Rattle.site_history.proofs.Records.{bound_by, doubt_in, doubt_prepared, due_install, locals_undoubted, once_behind, record_of}
-pub use Rattle.site_history.proofs.Restarts.{each_by_tid, each_found_from, each_held, once_doubts}
 pub use Rattle.site_history.proofs.RightLines.{good_answered, is_back, right_of_kept}
 pub use Rattle.site_history.proofs.SameLists.{InstallsFall, due_fall, installs_fall}
 pub use Rattle.site_history.proofs.SameSays.{SameDue, SameSays, all_due, all_say, same_sum, says_more}
@@ -38,7 +35,7 @@ pub use Rattle.site_history.proofs.SerialPasts.{pasts_serial}
 pub use Rattle.site_history.proofs.SitesOfStories.{of_events, sites_serial, stories_right}
 pub use Rattle.site_history.proofs.SortedPasts.{sorted_past}
 pub use Rattle.site_history.proofs.SortedStories.{local_is, sorted_story}
-pub use Rattle.site_history.proofs.Starts.{EachAppend, HasRisingWrites, append_take, doubt_among, doubt_tid, each_after, restored_doubt, restored_held}
+pub use Rattle.site_history.proofs.Starts.{EachAppend, HasRisingWrites, append_take, each_after, restored_doubt, restored_held}
 pub use Rattle.site_history.proofs.SummedPasts.{SummedPast, journals_say_all, pasts_summed, says_all_on, summed_on}
 pub use Rattle.site_history.proofs.TicketLines.{published_lines}
 pub use Rattle.site_history.proofs.UsableSites.{locals_from, sites_go_on}

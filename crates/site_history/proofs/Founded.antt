@@ -6,7 +6,7 @@ use Rattle.fed_rules.specs.Disk.{Call, Append, Sync, CutBack, TrimFront, Stops, 
 use Rattle.fed_rules.specs.SitePast.{SitePast, disk, records}
 use Rattle.fed_rules.specs.SiteRecords.{Home, site_frame}
 use Rattle.fed_rules.specs.declared.records.SiteRecord.TheVariants as Rec
-use Rattle.rules_laws.proofs.ForCallers.{bytes-more}
+use Rattle.fed_rules.proofs.ForCallers.{bytes-more}
 
 -- the two records that every site begins with, the newest first
 abbrev pub foundation : Home → List SiteRecord

@@ -8,8 +8,8 @@ use Rattle.fed_rules.specs.Runs as Runs
 use Rattle.fed_rules.specs.SitePast.{SitePast}
 use Rattle.fed_rules.specs.SiteRecords.{Home}
 use Rattle.fed_rules.specs.Usable.{OfFronts}
-use Rattle.rules_laws.specs.Durable.{IsFrontOf}
-use Rattle.rules_laws.proofs.ForCallers.{front_of_front}
+use Rattle.fed_rules.specs.Durable.{IsFrontOf}
+use Rattle.fed_rules.proofs.ForCallers.{front_of_front}
 use Rattle.site_history.proofs.Backed.{StopsLast, appended}
 use Rattle.site_history.proofs.Moves.{Moves, OnlySyncs, rests, begins_local, begins_work, goes_on, commits_local, prepares_run, settles_held, checks_sum}
 

@@ -36,7 +36,7 @@ use Rattle.fed_rules.specs.CoordPast.{CoordHappening, CoordPast, Standing, Undec
 use Rattle.fed_rules.specs.CoordRecords.{commits, committed_of, coord_frame, is_nobody, coord_payload}
 use Rattle.fed_rules.specs.Policies.{Policy}
 use Rattle.site_history.specs.Events.{IsSorted}
-use Rattle.site_history.proofs.Restarts.{each_found_from}
+use Rattle.order_laws.proofs.ForCallers.{each_found_from}
 
 -- what is begun at the coordinator is not of a local transaction
 abbrev pub BeginsGlobal : (Tx → Bool) → CoordEvent → Type 0

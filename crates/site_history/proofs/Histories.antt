@@ -21,7 +21,7 @@ use Rattle.site_history.proofs.Agreement.{IsKept}
 use Rattle.site_history.proofs.Backed.{AllBacked, acts_after}
 use Rattle.site_history.proofs.Backing.{IsBacked}
 use Rattle.site_history.proofs.Records.{doubt_in, record_of}
-use Rattle.site_history.proofs.Starts.{doubt_tid}
+use Rattle.engine_laws.proofs.ForCallers.{doubt_tid}
 
 -- a Local record is of a local transaction by the test, and a Prepared one is not
 abbrev pub IsSortedRecord : (Tx → Bool) → SiteRecord → Type 0

@@ -12,7 +12,7 @@ use Rattle.fed_rules.specs.declared.records.SiteRecord.{SiteRecord}
 use Rattle.fed_rules.specs.declared.records.SiteRecord.TheVariants.{Setup, Start, Prepared, Ended, Local, Checkpoint}
 use Rattle.fed_rules.specs.SiteRecords.{Held, Install, by_number, doubt_of, due_installs, install_held, installs}
 use Rattle.site_history.specs.Records.{IsBound, BindOnce, TellOutcomes}
-use Rattle.site_history.proofs.Starts.{doubt_tid}
+use Rattle.engine_laws.proofs.ForCallers.{doubt_tid}
 use Rattle.site_history.proofs.Records.{as_held, bound_by, due_install, doubt_in, record_of, unbound}
 use Rattle.site_history.proofs.AsSealed.{in_map, inserted_in}
 

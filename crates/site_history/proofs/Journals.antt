@@ -7,8 +7,8 @@ use Rattle.fed_rules.specs.declared.sums.SiteSum.{SiteSum}
 use Rattle.fed_rules.specs.Disk.{Append, Call, CutBack, TrimFront, Stops, Sync, Disk, after_call, after_calls, bytes_of, standing, whole}
 use Rattle.fed_rules.specs.SiteRecords.{Home, site_frame}
 use Rattle.fed_rules.specs.SiteSums.{behind_sum, journal_sum, last_sum, site_sum, sum_behind, sum_with}
-use Rattle.rules_laws.specs.Durable.{IsSound}
-use Rattle.rules_laws.proofs.ForCallers.{sound_call, standing_all, whole_all, whole_front}
+use Rattle.fed_rules.specs.Durable.{IsSound}
+use Rattle.fed_rules.proofs.ForCallers.{sound_call, standing_all, whole_all, whole_front}
 use Rattle.site_history.specs.Sums.{AreSums, ComeInOrder}
 use Rattle.site_history.proofs.SameSays.{SameSays, all_say, same_sum, says_more}
 use Rattle.site_history.proofs.Whole.{goes_on_in_order}

@@ -11,9 +11,9 @@ use Rattle.fed_rules.specs.Scenarios.{home_of, local_home, program_of}
 use Rattle.fed_rules.specs.Site.{done}
 use Rattle.fed_rules.specs.SiteRecords.{Home}
 use Rattle.fed_rules.specs.Story.{Story, Happened, AtSite, AtCoordinator, Nowhere, past_of, story_of, with_site, happens, sent_to}
-use Rattle.rules_laws.specs.Lines.{SiteCause, IsLine}
-pub use Rattle.rules_laws.proofs.ForCallers.{home-again as home_again}
-use Rattle.rules_laws.proofs.ForCallers.{line_is, live_is_of}
+use Rattle.fed_rules.specs.Lines.{SiteCause, IsLine}
+pub use Rattle.fed_rules.proofs.ForCallers.{home-again as home_again}
+use Rattle.fed_rules.proofs.ForCallers.{line_is, live_is_of}
 use Rattle.site_history.specs.Led.{IsAsked, IsLedLine, IsLed, Allows, AllAllow}
 
 -- what happens at this site is its next line at an event that was asked for

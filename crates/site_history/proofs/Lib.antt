@@ -6,7 +6,6 @@ mod BackedSteps
 mod Backing
 mod CoordAsked
 mod CoordSteps
-mod Doubted
 mod EpochLines
 mod Fronts
 mod GlobalSends

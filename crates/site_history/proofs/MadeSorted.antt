@@ -17,7 +17,7 @@ use Rattle.fed_rules.specs.SiteRecords.{Home}
 use Rattle.fed_rules.specs.Story.{Story, Happened, AtSite, AtCoordinator, Nowhere, coord_past, happens, past_of, sends_to, sent_to, story_of, with_site}
 use Rattle.site_history.specs.Events.{AreSorted}
 use Rattle.site_history.specs.Stories.{EventsAreSorted, IsGiven, is_local}
-use Rattle.rules_laws.proofs.ForCallers.{home-again}
+use Rattle.fed_rules.proofs.ForCallers.{home-again}
 use Rattle.site_history.proofs.SortedStories.{IsGood, IsVoteAsked, good_happens, sorted_story}
 
 -- the events that make the past of a site so far

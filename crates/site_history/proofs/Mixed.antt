@@ -12,7 +12,7 @@ use Rattle.fed_rules.specs.declared.records.SiteRecord.{SiteRecord}
 use Rattle.fed_rules.specs.declared.records.SiteRecord.TheVariants.{Setup, Start, Prepared, Ended, Local, Checkpoint}
 use Rattle.fed_rules.specs.SiteRecords.{Held, Install, by_number, doubt_of, doubts, install_held, installs, rows_after}
 use Rattle.fed_rules.specs.SiteSums.{carried}
-use Rattle.rules_laws.proofs.ForCallers.{carried_none}
+use Rattle.fed_rules.proofs.ForCallers.{carried_none}
 use Rattle.site_history.specs.Sums.{StaysBelow}
 use Rattle.site_history.proofs.Behind.{carried_same, doubt_behind}
 use Rattle.site_history.proofs.RowsOnTop.{rows_commute}

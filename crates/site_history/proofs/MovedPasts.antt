@@ -16,7 +16,7 @@ use Rattle.fed_rules.specs.Runs.{EngineLine}
 use Rattle.fed_rules.specs.Site.{answered, of_back, site_line, site_past, site_past_on, unless_tripped}
 use Rattle.fed_rules.specs.SitePast.{SiteHappening, SitePast, disk, epoch, epoch_start, engine_lines, records, trip}
 use Rattle.fed_rules.specs.SiteRecords.{Home, site_frame, start_of}
-use Rattle.rules_laws.specs.Durable.{IsFrontOf}
+use Rattle.fed_rules.specs.Durable.{IsFrontOf}
 use Rattle.site_history.specs.Events.{AreSorted, IsFresh, IsSorted}
 use Rattle.site_history.proofs.Agreement.{IsGoodLine, still}
 use Rattle.site_history.proofs.Backed.{appended, front_after}

@@ -17,13 +17,13 @@ use Rattle.fed_rules.specs.SitePast.{SiteHappening, SitePast, disk, records}
 use Rattle.fed_rules.specs.SiteRecords.{Held, Home, doubt_of, doubts, kept_held, last_ticket, site_frame, start_of}
 use Rattle.fed_rules.specs.Usable.{OfFronts}
 use Rattle.engine_laws.specs.Laws.{EachOnce}
-use Rattle.rules_laws.proofs.ForCallers.{expanded, opened_records}
+use Rattle.fed_rules.proofs.ForCallers.{expanded, opened_records}
 use Rattle.site_history.specs.Events.{AreSorted}
 use Rattle.site_history.specs.Lines.{HasRightLines}
 use Rattle.site_history.specs.SiteOrders.{HasGoodStarts}
 use Rattle.site_history.proofs.Histories.{IsSortedRecord}
 use Rattle.site_history.proofs.Records.{doubt_number}
-use Rattle.site_history.proofs.Restarts.{each_doubt, once_doubts}
+use Rattle.engine_laws.proofs.ForCallers.{each_doubt, once_doubts}
 use Rattle.site_history.proofs.RightLines.{right_of_kept}
 use Rattle.site_history.proofs.Starts.{HasRisingWrites}
 use Rattle.site_history.proofs.WellKept.{IsWellKept, StartsWell, anew, good_starts_on, well_on}

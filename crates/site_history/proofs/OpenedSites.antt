@@ -13,8 +13,8 @@ use Rattle.fed_rules.specs.SitePast.{disk, journal, records}
 use Rattle.fed_rules.specs.SiteRecords.{Held, Home, site_frame}
 use Rattle.fed_rules.specs.SiteSums.{carried, start_from}
 use Rattle.fed_rules.specs.Usable.{HaveSums, SumsFit, OfFronts}
-use Rattle.rules_laws.specs.Durable.{IsSound}
-use Rattle.rules_laws.proofs.ForCallers.{bytes-more, expanded_is, opened_length, opened_synced, opened_trimmed, sound_calls}
+use Rattle.fed_rules.specs.Durable.{IsSound}
+use Rattle.fed_rules.proofs.ForCallers.{bytes-more, expanded_is, opened_length, opened_synced, opened_trimmed, sound_calls}
 use Rattle.site_history.proofs.Histories.{IsSortedRecord}
 use Rattle.site_history.proofs.OpenedPasts.{named_writes, opened_is, opened_well}
 use Rattle.site_history.proofs.Starts.{HasRisingWrites}

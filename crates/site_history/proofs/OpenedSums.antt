@@ -17,7 +17,7 @@ use Rattle.fed_rules.specs.Reopened.{home_by, local_read, oldest, owner_read, si
 use Rattle.fed_rules.specs.SiteRecords.{Held, Home, Install, doubt_of, doubts, installs}
 use Rattle.fed_rules.specs.SiteSums.{carried}
 use Rattle.fed_rules.specs.Usable.{AreBehind, AreSumsOfSome, AreWithin, IsBehind, LocalsOnTop, OfFronts, SumsFit, counted, read}
-use Rattle.rules_laws.proofs.ForCallers.{expanded}
+use Rattle.fed_rules.proofs.ForCallers.{expanded}
 use Rattle.site_history.proofs.Fronts.{whole_of_fronts}
 use Rattle.site_history.proofs.Records.{due_install}
 use Rattle.site_history.specs.Sums.{AreDisjoint, AreSums, ComeInOrder, HeldComes, StaysBelow}

@@ -4,7 +4,7 @@ use Rattle.mdb_base.specs.declared.names.Tid.{Tid}
 use Rattle.mdb_base.specs.Rows.{Table}
 use Rattle.mdb_base.specs.Words.{Each}
 use Rattle.mdb_base.proofs.ForCallers.{each_among, reverse_more}
-use Rattle.order_laws.specs.Chains.{In, Distinct}
+use Rattle.order_laws.specs.Chains.{In}
 use Rattle.order_laws.specs.Orders.{Before}
 use Rattle.order_laws.proofs.ForCallers.{in_append, in_reverse}
 use Rattle.fed_rules.specs.declared.records.SiteRecord.{SiteRecord}
@@ -13,23 +13,6 @@ use Rattle.fed_rules.specs.SerialRuns.{HasLowerTicket, IsSerial, ReadsAlone, Tic
 use Rattle.site_history.specs.Records.{IsPrepared}
 use Rattle.site_history.specs.SiteOrders.{SiteSerial, table_after}
 use Rattle.site_history.proofs.AsSealed.{in_map}
-
-distinct_more : {A : Type 0} (x : A) (xs : List A) → Distinct xs → (In x xs → ⊥) → Distinct (xs ++ x ∷ [])
-distinct_more x [] d free = ((λ i. i), tt)
-distinct_more x (y ∷ xs) d free = (
-  λ i. apart (in_append y xs (x ∷ []) i),
-  distinct_more x xs d.1 (λ i. free (inr i)),
-)
-  where
-    apart : In y xs ⊎ ((x ≡ y) ⊎ ⊥) → ⊥
-    apart (inl j) = d.0 j
-    apart (inr (inl e)) = free (inl (sym e))
-    apart (inr (inr never)) = never
-
-pub distinct_reverse : {A : Type 0} (xs : List A) → Distinct xs → Distinct (reverse xs)
-distinct_reverse [] d = tt
-distinct_reverse (x ∷ xs) d =
-    subst Distinct (sym (reverse_more x xs)) (distinct_more x (reverse xs) (distinct_reverse xs d.1) (λ i. d.0 (in_reverse xs x i)))
 
 before_more : {A : Type 0} (xs : List A) (x a b : A) → Before (xs ++ x ∷ []) a b → Before xs a b ⊎ (In a xs × (x ≡ b))
 before_more [] x a b (inl (e, never)) = elim never [ ]

@@ -7,7 +7,7 @@ use Rattle.fed_rules.specs.declared.records.SiteRecord.{SiteRecord}
 use Rattle.fed_rules.specs.declared.records.SiteRecord.TheVariants.{Setup, Start, Prepared, Ended, Local, Checkpoint}
 use Rattle.fed_rules.specs.SiteRecords.{Held, Install, doubt_of, last_number, prepared_tids}
 use Rattle.site_history.specs.Records.{Binds, IsBound, BindOnce}
-use Rattle.site_history.proofs.Starts.{doubt_tid}
+use Rattle.engine_laws.proofs.ForCallers.{doubt_tid}
 use Rattle.mdb_base.specs.Words.{Among}
 use Rattle.order_laws.proofs.ForCallers.{is_among}
 use Rattle.fed_rules.specs.Usable.{IsPreparedOf}

@@ -3,22 +3,18 @@ use Rattle.std.proofs.Common.{◌≡◌, ◌≤◌, ◌⊎◌, Bool, true, false
 use Rattle.std.specs.Prelude.{nat_lt}
 use Rattle.mdb_base.specs.declared.names.Key.{Key}
 use Rattle.mdb_base.specs.declared.names.Tid.{Tid}
-use Rattle.mdb_base.specs.Names.{same_tid}
 use Rattle.mdb_base.specs.Rows.{look_up}
-use Rattle.mdb_base.specs.Words.{Each, found, with_some, or_else, inserted}
-use Rattle.mdb_base.proofs.ForCallers.{each_inserted, each_of_mapped, same_tid-equal, same_tid-sym}
-use Rattle.order_laws.specs.Chains.{In, Distinct}
+use Rattle.mdb_base.specs.Words.{Each, or_else}
+use Rattle.order_laws.specs.Chains.{In}
 use Rattle.fed_rules.specs.declared.records.SiteRecord.{SiteRecord}
 use Rattle.fed_rules.specs.declared.records.SiteRecord.TheVariants.{Setup, Start, Prepared, Ended, Local, Checkpoint}
-use Rattle.fed_rules.specs.declared.runs.Kept.{Kept}
 use Rattle.fed_rules.specs.EngineLines.{AllApart, IsNumbered, IsStart}
 use Rattle.fed_rules.specs.Runs as Runs
 use Rattle.fed_rules.specs.Runs.{EngineLine, Access, Run, committed, number, published, restored, run_at, table, table_of}
-use Rattle.fed_rules.specs.Attempts.{each_attempt}
-use Rattle.fed_rules.specs.SiteRecords.{Home, Held, doubt_of, doubts, installs, kept_held, last_number, prepared_tids, rows_after, start_of, by_tid, held_before}
+use Rattle.fed_rules.specs.SiteRecords.{Home, Held, doubt_of, doubts, installs, kept_held, last_number, rows_after, start_of}
 use Rattle.engine_laws.specs.Epochs.{Epoch, AreEpochs, StartsAfter, all_committed}
-use Rattle.engine_laws.specs.Laws.{EachOnce, IsLeft}
-use Rattle.engine_laws.proofs.ForCallers.{always_may_restart, history}
+use Rattle.engine_laws.specs.Laws.{IsLeft}
+use Rattle.engine_laws.proofs.ForCallers.{always_may_restart, doubt_tid, each_doubt, history, once_doubts}
 use Rattle.site_history.specs.Lines.{Agrees}
 use Rattle.site_history.specs.Records.{BindOnce}
 use Rattle.site_history.proofs.AsSealed.{IsRunOf, all_in, as_sealed, as_was, in_all, newest_right, WasCommitted}
@@ -27,8 +23,7 @@ use Rattle.site_history.proofs.EpochLines.{epoch_of_lines}
 use Rattle.site_history.proofs.Installs.{installs_distinct}
 use Rattle.site_history.proofs.Records.{HasNumber, doubt_number, number_most}
 use Rattle.site_history.proofs.SameLists.{install_of, installs_fall, rows_of_runs, same_list}
-use Rattle.site_history.proofs.Starts.{HasRisingWrites, doubt_tid, restored_doubt, restored_held, start_agrees}
-use Rattle.rules_laws.proofs.ForCallers.{each_distinct}
+use Rattle.site_history.proofs.Starts.{HasRisingWrites, restored_doubt, restored_held, start_agrees}
 
 -- the committed runs of backed records, by falling numbers, are their installs
 pub installs_are : (home : Home) (acts : Tid → List Access) (records : List SiteRecord) (start : Runs.Start) (lines : List EngineLine)
@@ -64,48 +59,6 @@ rows_are home acts records start lines earlier b once key =
     ∙ rows_of_runs home.items runs key
     ∙ ap (λ items. table_of (look_up items) runs key) (sym b.first)
     ∙ (history epoch earlier b.epochs [] tt).left key
-
--- a fact of each one that is found, by the item that gives it
-pub each_found_from : {A B : Type 0} (P : B → Type 0) (look : A → Option B) (xs : List A)
-    → ((x : A) (y : B) → In x xs → look x ≡ Some y → P y) → Each P (found look xs)
-each_found_from P look [] f = tt
-each_found_from P look (x ∷ xs) f = by_look (look x) refl (each_found_from P look xs (λ z y i e. f z y (inr i) e))
-  where
-    by_look : (o : Option _) → look x ≡ o → Each P (found look xs) → Each P (with_some o (found look xs))
-    by_look None is rest = rest
-    by_look (Some y) is rest = (f x y (inl refl) is, rest)
-
-pub each_by_tid : (P : Held → Type 0) (helds : List Held) → Each P helds → Each P (by_tid helds)
-each_by_tid P [] h = tt
-each_by_tid P (held ∷ helds) h = each_inserted P held_before held (by_tid helds) h.0 (each_by_tid P helds h.1)
-
--- a fact of each of those in doubt
-pub each_doubt : (P : Kept → Type 0) (records : List SiteRecord)
-    → ((tid : Tid) (held : Held) → doubt_of records tid ≡ Some held → P (kept_held held)) → Each P (map kept_held (doubts records))
-each_doubt P records f =
-    each_of_mapped P kept_held (doubts records)
-    (each_by_tid (λ held. P (kept_held held)) (found (doubt_of records) (each_attempt (prepared_tids records)))
-    (each_found_from (λ held. P (kept_held held)) (doubt_of records) (each_attempt (prepared_tids records)) (λ tid held i e. f tid held e)))
-
-once_found : (records : List SiteRecord) (tids : List Tid) → Distinct tids → EachOnce (map kept_held (found (doubt_of records) tids))
-once_found records [] apart = tt
-once_found records (u ∷ us) apart = by_held (doubt_of records u) refl (once_found records us apart.1)
-  where
-    by_held : (o : Option Held) → doubt_of records u ≡ o → EachOnce (map kept_held (found (doubt_of records) us))
-        → EachOnce (map kept_held (with_some o (found (doubt_of records) us)))
-    by_held None is rest = rest
-    by_held (Some held) is rest = (
-      each_of_mapped (λ other. same_tid held.tid other.tid ≡ false) kept_held (found (doubt_of records) us)
-          (each_found_from (λ other. same_tid held.tid other.tid ≡ false) (doubt_of records) us
-          (λ v other i e. by_test v other i e (same_tid held.tid other.tid) refl)),
-      rest,
-    )
-      where
-        by_test : (v : Tid) (other : Held) → In v us → doubt_of records v ≡ Some other → (b : Bool) → same_tid held.tid other.tid ≡ b → b ≡ false
-        by_test v other i e true same =
-            let one : v ≡ u = sym (doubt_tid records v other e) ∙ sym (same_tid-equal held.tid other.tid same) ∙ doubt_tid records u held is in
-            absurd (apart.0 (subst (λ t. In t us) one i))
-        by_test v other i e false same = refl
 
 -- what is in doubt was left sealed
 pub left_sealed : (start : Runs.Start) (lines : List EngineLine) (tid : Tid) (held : Held) (o : Option Run) → held.tid ≡ tid
@@ -147,38 +100,6 @@ numbers_most home acts records start lines earlier b (run ∷ runs) sub = (
         let h = b.committed run (was_here earlier is (sub run (inl refl))) in
         number_most records h.kept (number run) h.among (kept_number run h.kept h.is)
     by_test false is = let most = ltb-false start.counter (number run) is in let c = b.counter in omega arith
-
-pub each_held : (P : Kept → Type 0) (helds : List Held) → Each P (map kept_held helds) → Each (λ held. P (kept_held held)) helds
-each_held P [] h = tt
-each_held P (held ∷ helds) h = (h.0, each_held P helds h.1)
-
-once_inserted : (held : Held) (more : List Held) → Each (λ other. same_tid held.tid other.tid ≡ false) more → EachOnce (map kept_held more)
-    → EachOnce (map kept_held (inserted held_before held more))
-once_inserted held [] apart once = (tt, tt)
-once_inserted held (y ∷ more) apart once = by_before (held_before y held) (once_inserted held more apart.1 once.1)
-  where
-    by_before : (c : Bool) → EachOnce (map kept_held (inserted held_before held more))
-        → EachOnce (map kept_held (cond c (y ∷ inserted held_before held more) (held ∷ y ∷ more)))
-    by_before true rest = (
-      each_of_mapped (λ other. same_tid y.tid other.tid ≡ false) kept_held (inserted held_before held more)
-          (each_inserted (λ other. same_tid y.tid other.tid ≡ false) held_before held more (same_tid-sym y.tid held.tid ∙ apart.0)
-          (each_held (λ other. same_tid y.tid other.tid ≡ false) more once.0)),
-      rest,
-    )
-    by_before false rest = (each_of_mapped (λ other. same_tid held.tid other.tid ≡ false) kept_held (y ∷ more) apart, once)
-
-once_by_tid : (helds : List Held) → EachOnce (map kept_held helds) → EachOnce (map kept_held (by_tid helds))
-once_by_tid [] once = tt
-once_by_tid (held ∷ helds) once =
-    once_inserted held (by_tid helds)
-    (each_by_tid (λ other. same_tid held.tid other.tid ≡ false) helds (each_held (λ other. same_tid held.tid other.tid ≡ false) helds once.0))
-    (once_by_tid helds once.1)
-
--- no attempt is in doubt twice
-pub once_doubts : (records : List SiteRecord) → EachOnce (map kept_held (doubts records))
-once_doubts records =
-    once_by_tid (found (doubt_of records) (each_attempt (prepared_tids records)))
-    (once_found records (each_attempt (prepared_tids records)) (each_distinct (prepared_tids records)))
 
 -- the start comes after the epoch before it
 pub starts_after : (home : Home) (acts : Tid → List Access) (records : List SiteRecord) (start : Runs.Start) (lines : List EngineLine)

@@ -1,5 +1,5 @@
 -- The committed attempts of a site are in a serial order, over all its stops and restarts.
-use Rattle.order_laws.proofs.ForCallers.{each_from, those-in}
+use Rattle.order_laws.proofs.ForCallers.{distinct_reverse, each_from, those-in}
 use Rattle.std.proofs.Common.{◌≡◌, ℕ, ◌<◌, ◌⊎◌, Bool, true, false, cond, ◌&&◌, Option, Some, None, List, [], ◌∷◌, map, reverse, refl, sym, ap, ◌∙◌, subst, inl, inr}
 use Rattle.std.specs.Prelude.{is_some}
 use Rattle.std.proofs.lemmas.Bool.{and_from, and_parts}
@@ -21,25 +21,25 @@ use Rattle.fed_rules.specs.SitePast.{SitePast, epoch_start, engine_lines, record
 use Rattle.fed_rules.specs.SiteRecords.{Home, Held, Install, doubt_of, due_installs, installs, prepared_tids, rows_after, start_of}
 use Rattle.engine_laws.specs.Epochs.{Epoch, all_committed}
 use Rattle.engine_laws.specs.Laws.{AreSealed}
-use Rattle.engine_laws.proofs.ForCallers.{history}
+use Rattle.engine_laws.proofs.ForCallers.{doubt_among, doubt_tid, history}
 use Rattle.site_history.specs.Accesses.{acts_at}
 use Rattle.site_history.specs.Lines.{Agrees}
 use Rattle.site_history.specs.Records.{BindOnce, IsPrepared, TellOutcomes}
 use Rattle.site_history.specs.SiteOrders.{HasEpochs, IsSerialOrder, IsSerialPast, OfSortedPasts, SiteSerial, table_after}
 use Rattle.site_history.proofs.AsSealed.{HasImage, IsRunOf, WasCommitted, all_in, as_sealed, in_all, those_in}
-use Rattle.rules_laws.specs.Durable.{IsFrontOf}
+use Rattle.fed_rules.specs.Durable.{IsFrontOf}
 use Rattle.fed_rules.specs.EngineLines.{IsStart}
 use Rattle.site_history.proofs.Backed.{AllBacked, backed_front, each_front, first_backing, once_front}
 use Rattle.site_history.proofs.Backing.{IsBacked, IsKeptAs, binds_kept}
 use Rattle.site_history.proofs.EpochLines.{epoch_of_lines}
 use Rattle.site_history.proofs.Histories.{IsHistory}
 use Rattle.site_history.proofs.HistoryPasts.{history_past}
-use Rattle.site_history.proofs.OrdersRun.{HasTicketOf, distinct_reverse, order_rising, order_serial, order_table}
+use Rattle.site_history.proofs.OrdersRun.{HasTicketOf, order_rising, order_serial, order_table}
 use Rattle.site_history.proofs.Installs.{IsDoubtful, due_distinct, due_installed, installed_due, installs_distinct, prepared_due, tids_of}
 use Rattle.site_history.proofs.Records.{doubt_in, due_install, once_record, prepared_once, record_of}
 use Rattle.site_history.proofs.Restarts.{backed_restart, good_newest, installs_are}
 use Rattle.site_history.proofs.SameLists.{due_fall, install_of, rows_of_runs, same_list}
-use Rattle.site_history.proofs.Starts.{HasRisingWrites, doubt_among, doubt_tid}
+use Rattle.site_history.proofs.Starts.{HasRisingWrites}
 
 -- a committed run, or one in doubt, with its record and the accesses that it had
 record IsMember (acts : Tid → List Access) (rs : List SiteRecord) (run : Run) : Type 0 where

@@ -25,8 +25,8 @@ use Rattle.fed_rules.specs.Site.{site_line}
 use Rattle.fed_rules.specs.SiteRecords.{Home}
 use Rattle.fed_rules.specs.Story.{Story, Happened, AtSite, AtCoordinator, Nowhere, at_coordinator, coord_past, happens, past_of, sends_to, sent_to, story_of, with_coordinator}
 use Rattle.engine_laws.proofs.ForCallers.{is_live_of}
-use Rattle.rules_laws.specs.Lines.{SiteCause, CoordCause, IsLine}
-use Rattle.rules_laws.proofs.ForCallers.{line_is, live_is_of}
+use Rattle.fed_rules.specs.Lines.{SiteCause, CoordCause, IsLine}
+use Rattle.fed_rules.proofs.ForCallers.{line_is, live_is_of}
 use Rattle.site_history.specs.Events.{IsSorted}
 use Rattle.site_history.specs.Stories.{IsGiven, is_local}
 use Rattle.site_history.proofs.CoordAsked.{AreBegun, IsAskedVote, IsNextGo, begun_next, vote_stays}

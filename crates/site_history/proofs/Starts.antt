@@ -11,41 +11,17 @@ use Rattle.fed_rules.specs.Disk.{Disk, Call, Append, Sync, CutBack, TrimFront, S
 use Rattle.fed_rules.specs.Runs.{Run, restored, restored_at, run_at}
 use Rattle.fed_rules.specs.Attempts.{each_attempt}
 use Rattle.fed_rules.specs.SiteRecords.{Home, Held, doubt_of, prepared_tids, doubts, kept_held, start_of, by_tid, held_before}
-use Rattle.engine_laws.proofs.ForCallers.{puts_of_written}
+use Rattle.engine_laws.proofs.ForCallers.{doubt_among, doubt_tid, puts_of_written}
 use Rattle.site_history.specs.Lines.{Agrees}
 use Rattle.std.specs.Prelude.{nat_le, min, ◌+◌, ◌++◌}
-use Rattle.rules_laws.proofs.ForCallers.{in_each}
+use Rattle.fed_rules.proofs.ForCallers.{in_each}
 
 -- the writes of a Prepared record rise by their keys
 abbrev pub HasRisingWrites : SiteRecord → Type 0
 HasRisingWrites (Prepared tid epoch number ticket writes) = IsRising (λ put. put.key.0) writes
 HasRisingWrites record_of_another_kind = Unit {0}
 
--- the one in doubt is of the attempt
-pub doubt_tid : (records : List SiteRecord) (tid : Tid) (held : Held) → doubt_of records tid ≡ Some held → held.tid ≡ tid
-doubt_tid [] tid held e = cc
-doubt_tid (Prepared prepared epoch number ticket writes ∷ records) tid held e =
-    by_test (same_tid prepared tid) refl e (doubt_tid records tid held)
-  where
-    by_test : (b : Bool) → same_tid prepared tid ≡ b
-        → cond b (Some (record { tid = prepared; epoch = epoch; number = number; ticket = ticket; writes = writes })) (doubt_of records tid) ≡ Some held
-        → (doubt_of records tid ≡ Some held → held.tid ≡ tid) → held.tid ≡ tid
-    by_test true is e rest =
-        let here : Held = record { tid = prepared; epoch = epoch; number = number; ticket = ticket; writes = writes } in
-        let same : here ≡ held = cc in
-        sym (ap (λ h. h.tid) same) ∙ same_tid-equal prepared tid is
-    by_test false is e rest = rest e
-doubt_tid (Ended ended decision ∷ records) tid held e = by_test (same_tid ended tid) e (doubt_tid records tid held)
-  where
-    by_test : (b : Bool) → cond b None (doubt_of records tid) ≡ Some held → (doubt_of records tid ≡ Some held → held.tid ≡ tid) → held.tid ≡ tid
-    by_test true e rest = cc
-    by_test false e rest = rest e
-doubt_tid (Setup site engine protocol items ∷ records) tid held e = doubt_tid records tid held e
-doubt_tid (Checkpoint sum ∷ records) tid held e = doubt_tid records tid held e
-doubt_tid (Start epoch ∷ records) tid held e = doubt_tid records tid held e
-doubt_tid (Local local number writes ∷ records) tid held e = doubt_tid records tid held e
-
--- and its writes rise
+-- the writes of the one in doubt rise
 pub doubt_rising : (records : List SiteRecord) (tid : Tid) (held : Held) → Each HasRisingWrites records → doubt_of records tid ≡ Some held
     → IsRising (λ put. put.key.0) held.writes
 doubt_rising [] tid held rising e = cc
@@ -70,28 +46,6 @@ doubt_rising (Setup site engine protocol items ∷ records) tid held rising e = 
 doubt_rising (Checkpoint sum ∷ records) tid held rising e = doubt_rising records tid held rising.1 e
 doubt_rising (Start epoch ∷ records) tid held rising e = doubt_rising records tid held rising.1 e
 doubt_rising (Local local number writes ∷ records) tid held rising e = doubt_rising records tid held rising.1 e
-
--- who is in doubt has a Prepared record
-pub doubt_among : (records : List SiteRecord) (tid : Tid) → Among (λ u. u ≡ tid) (prepared_tids records) ⊎ (doubt_of records tid ≡ None)
-doubt_among [] tid = inr refl
-doubt_among (Prepared prepared epoch number ticket writes ∷ records) tid = by_test (same_tid prepared tid) refl (doubt_among records tid)
-  where
-    by_test : (b : Bool) → same_tid prepared tid ≡ b → Among (λ u. u ≡ tid) (prepared_tids records) ⊎ (doubt_of records tid ≡ None)
-        → ((prepared ≡ tid) ⊎ Among (λ u. u ≡ tid) (prepared_tids records))
-        ⊎ (cond b (Some (record { tid = prepared; epoch = epoch; number = number; ticket = ticket; writes = writes })) (doubt_of records tid) ≡ None)
-    by_test true is rest = inl (inl (same_tid-equal prepared tid is))
-    by_test false is (inl among) = inl (inr among)
-    by_test false is (inr none) = inr none
-doubt_among (Ended ended decision ∷ records) tid = by_test (same_tid ended tid) (doubt_among records tid)
-  where
-    by_test : (b : Bool) → Among (λ u. u ≡ tid) (prepared_tids records) ⊎ (doubt_of records tid ≡ None)
-        → Among (λ u. u ≡ tid) (prepared_tids records) ⊎ (cond b None (doubt_of records tid) ≡ None)
-    by_test true rest = inr refl
-    by_test false rest = rest
-doubt_among (Setup site engine protocol items ∷ records) tid = doubt_among records tid
-doubt_among (Checkpoint sum ∷ records) tid = doubt_among records tid
-doubt_among (Start epoch ∷ records) tid = doubt_among records tid
-doubt_among (Local local number writes ∷ records) tid = doubt_among records tid
 
 abbrev pub restored_held : Option Held → Option Run
 restored_held held = map_some (λ h. restored (kept_held h)) held

@@ -15,7 +15,7 @@ use Rattle.fed_rules.specs.Site.{answered, of_back, site_line, site_past, site_p
 use Rattle.fed_rules.specs.SitePast.{SiteHappening, SitePast, disk, epoch, journal, records, trip}
 use Rattle.fed_rules.specs.SiteRecords.{Home, site_frame, start_of}
 use Rattle.fed_rules.specs.SiteSums.{journal_sum, site_sum, start_from}
-use Rattle.rules_laws.specs.Durable.{IsSound}
+use Rattle.fed_rules.specs.Durable.{IsSound}
 use Rattle.site_history.specs.Events.{AreSorted, IsFresh, IsSorted}
 use Rattle.site_history.specs.SiteOrders.{OfSortedEvents}
 use Rattle.site_history.proofs.Histories.{no_local_doubt}

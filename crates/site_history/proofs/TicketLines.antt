@@ -21,7 +21,7 @@ use Rattle.fed_rules.specs.Runs.{EngineLine, Run, changed, published, run_at, ti
 use Rattle.fed_rules.specs.Site.{answered, number_of, of_back, site_line, site_past, unless_tripped}
 use Rattle.fed_rules.specs.SitePast.{SiteHappening, SitePast, disk, engine_lines, epoch, epoch_start, live, live_one, records, run_of, trip}
 use Rattle.fed_rules.specs.SiteRecords.{Home, Held, doubt_of, last_ticket, site_frame, start_of}
-use Rattle.engine_laws.proofs.ForCallers.{Own, at_line, begins, got, own, published_at, published_grows, seals, stays, takes, ticket_next, wrote}
+use Rattle.engine_laws.proofs.ForCallers.{Own, at_line, begins, doubt_tid, got, own, published_at, published_grows, seals, stays, takes, ticket_next, wrote}
 use Rattle.site_history.specs.Events.{AreSorted, IsFresh, IsSorted, PreparesOnce, prepares}
 use Rattle.site_history.specs.Records.{IsPrepared, Prepares}
 use Rattle.site_history.specs.SiteOrders.{OfSortedPasts}
@@ -33,7 +33,7 @@ use Rattle.site_history.proofs.HistoryPasts.{history_past}
 use Rattle.site_history.proofs.Moves.{IsMove, Moves, OnlySyncs, begins_local, begins_work, commits_local, goes_on, move_answered, prepares_run, rests, settles_held, checks_sum}
 use Rattle.site_history.proofs.Records.{doubt_in}
 use Rattle.site_history.proofs.RightLines.{good_answered, is_back}
-use Rattle.site_history.proofs.Starts.{EachAppend, append_take, doubt_tid, each_after, restored_doubt, restored_held}
+use Rattle.site_history.proofs.Starts.{EachAppend, append_take, each_after, restored_doubt, restored_held}
 
 -- the run of the attempt has this ticket by these lines
 record Taken (start : Runs.Start) (lines : List EngineLine) (tid : Tid) (ticket : ℕ) : Type 0 where

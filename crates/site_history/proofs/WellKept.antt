@@ -23,13 +23,13 @@ use Rattle.fed_rules.specs.SitePast.{SiteHappening, SitePast, disk, engine_lines
 use Rattle.fed_rules.specs.SiteRecords.{Home, doubt_of, doubts, kept_held, last_number, last_ticket, site_frame, start_of, ticket_owner}
 use Rattle.fed_rules.specs.Usable.{OfFronts}
 use Rattle.engine_laws.specs.Laws.{IsLeft}
-use Rattle.engine_laws.proofs.ForCallers.{always_may_restart, at_line, rows_of_table}
-use Rattle.rules_laws.specs.Durable.{IsFrontOf}
+use Rattle.engine_laws.proofs.ForCallers.{always_may_restart, at_line, doubt_tid, each_doubt, once_doubts, rows_of_table}
+use Rattle.fed_rules.specs.Durable.{IsFrontOf}
 use Rattle.site_history.specs.Events.{AreSorted, IsFresh, IsSorted}
 use Rattle.site_history.specs.Lines.{Agrees}
 use Rattle.site_history.specs.SiteOrders.{HasGoodStarts, OfSortedEvents}
 use Rattle.site_history.proofs.Agreement.{IsGoodLine, IsKept, kept_good, kept_start, still}
-use Rattle.rules_laws.proofs.ForCallers.{front_of_front}
+use Rattle.fed_rules.proofs.ForCallers.{front_of_front}
 use Rattle.site_history.proofs.Backed.{appended, each_front, front_after}
 use Rattle.site_history.proofs.Fronts.{HasNoStop, fronts_of_front, move_no_stop, stop_last, taken_front, whole_of_fronts}
 use Rattle.site_history.proofs.Histories.{IsSortedRecord, no_local_doubt}
@@ -37,9 +37,9 @@ use Rattle.site_history.proofs.HistoryMoves.{calm_published, calm_ticket, synced
 use Rattle.site_history.proofs.HistoryPasts.{move_records}
 use Rattle.site_history.proofs.Moves.{IsMove, Moves, begins_local, begins_work, checks_sum, commits_local, goes_on, move_answered, prepares_run, rests, settles_held}
 use Rattle.site_history.proofs.Records.{doubt_number}
-use Rattle.site_history.proofs.Restarts.{each_doubt, left_sealed, once_doubts}
+use Rattle.site_history.proofs.Restarts.{left_sealed}
 use Rattle.site_history.proofs.RightLines.{good_answered, is_back, kept_first}
-use Rattle.site_history.proofs.Starts.{EachAppend, HasRisingWrites, append_take, doubt_tid, each_after, restored_doubt, restored_held}
+use Rattle.site_history.proofs.Starts.{EachAppend, HasRisingWrites, append_take, each_after, restored_doubt, restored_held}
 
 -- an epoch may start from these records
 abbrev pub StartsWell : Home → List SiteRecord → Type 0

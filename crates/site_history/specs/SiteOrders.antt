@@ -16,7 +16,7 @@ use Rattle.fed_rules.specs.Site.{site_past}
 use Rattle.fed_rules.specs.SitePast.{SitePast, epoch_start, engine_lines, records}
 use Rattle.fed_rules.specs.SiteRecords.{Home, doubt_of, due_installs, due_rows, installs, order_of, site_rows, start_of}
 use Rattle.engine_laws.specs.Epochs.{Epoch, AreEpochs, first_rows}
-use Rattle.rules_laws.specs.Durable.{IsFrontOf}
+use Rattle.fed_rules.specs.Durable.{IsFrontOf}
 use Rattle.site_history.specs.Accesses.{acts_at}
 use Rattle.site_history.specs.Events.{AreSorted, PreparesOnce}
 use Rattle.site_history.specs.Records.{BindOnce, IsPrepared, TellOutcomes}

@@ -22,7 +22,7 @@ use Rattle.fed_rules.specs.SitePast.{SiteHappening}
 use Rattle.fed_rules.specs.SiteRecords.{Held, Home, epoch_of, site_frame}
 use Rattle.fed_rules.specs.SiteSums.{epoch_with, journal_sum, site_sum, start_from}
 use Rattle.fed_rules.specs.Usable as Usable
-use Rattle.rules_laws.proofs.ForCallers.{expanded, opened_journal, opened_length, opened_trimmed}
+use Rattle.fed_rules.proofs.ForCallers.{expanded, opened_journal, opened_length, opened_trimmed}
 use Rattle.coord_laws.proofs.ForCallers.{going_tells, is_silent, names_declared, nothing_read, opened_attempts, opened_begun, opened_disk, read_is, recorded_begun, usable_go_on}
 use Rattle.coord_laws.specs.CoordRestarts.{TellsRecords}
 use Rattle.site_history.specs.FoundSites.{IsFoundSite}

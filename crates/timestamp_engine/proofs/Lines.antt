@@ -26,14 +26,13 @@ use Rattle.run_book.specs.Book.{Book, started, begins, unbegins, unseals, drops,
 use Rattle.run_book.specs.Keeps.{Keeps}
 use Rattle.run_book.specs.Laws.{IsCalled}
 use Rattle.run_book.specs.Rivals.{rival_by}
-use Rattle.run_book.proofs.ForCallers.{after-table, called_ends, calls_well, run_at-held, starts_well, unbegins_well, unseals_well}
-use Rattle.access_ages.specs.declared.key_ages.KeyAges.{KeyAges}
-use Rattle.access_ages.specs.Ages.{Ages, ages_of, no_ages, restored_writer, unwritten}
-use Rattle.access_ages.specs.Takers.{ByAge, Takers, no_takers, restored_takers, without_taker}
-use Rattle.access_ages.specs.Stops.{above, below, youngest_against, key_stop, IsTicketStop}
-use Rattle.access_ages.specs.Lines.{KeepsAges}
-use Rattle.access_ages.specs.Laws.{AreNow, where_written, IsNoted}
-use Rattle.access_ages.proofs.ForCallers.{follows_begins, follows_calls, follows_starts, follows_unseals, noted_ends, stop_shape, stops_access, stops_taking, unlisted}
+use Rattle.run_book.proofs.ForCallers.{after-table, called_ends, calls_well, follows_begins, follows_calls, follows_starts, follows_unseals, noted_ends, run_at-held, starts_well, stop_shape, stops_access, stops_taking, unbegins_well, unlisted, unseals_well}
+use Rattle.run_book.specs.declared.key_ages.KeyAges.{KeyAges}
+use Rattle.run_book.specs.Ages.{Ages, ages_of, no_ages, restored_writer, unwritten}
+use Rattle.run_book.specs.Takers.{ByAge, Takers, no_takers, restored_takers, without_taker}
+use Rattle.run_book.specs.Stops.{above, below, youngest_against, key_stop, IsTicketStop}
+use Rattle.run_book.specs.AgeLines.{KeepsAges}
+use Rattle.run_book.specs.AgeLaws.{AreNow, where_written, IsNoted}
 use Rattle.timestamp_engine.specs.declared.engine.TimestampEngine.{TimestampEngine}
 use Rattle.timestamp_engine.specs.Stands.{Stands, EndsRun, StopsRun}
 

@@ -7,7 +7,7 @@ use Rattle.mdb_base.specs.declared.replies.Reply.TheVariants.{Refused}
 use Rattle.fed_rules.specs.Runs.{Start, EngineLine, tid_of, gives_up}
 use Rattle.fed_rules.specs.EngineLines.{IsRightLine}
 use Rattle.run_book.specs.Keeps.{KeepsRoomy}
-use Rattle.access_ages.specs.Lines.{KeepsAges}
+use Rattle.run_book.specs.AgeLines.{KeepsAges}
 use Rattle.timestamp_engine.specs.declared.engine.TimestampEngine.{TimestampEngine}
 
 -- the book holds what the lines say by timestamp order, and beside it stand the ages of each key's accesses and who has taken the ticket

@@ -1,8 +1,7 @@
 //! The timestamp engine.
-use access_ages::{AccessAges, TicketAges};
 use engine_contract::{Kept, LocalEngine, SealErr, Sealed};
 use mdb_base::{Key, Memory, PlainAct, Puts, Reply, Tid};
-use run_book::{Counters, Granted, RunBook};
+use run_book::{AccessAges, Counters, Granted, RunBook, TicketAges};
 use std::alloc::Global;
 
 /// A local engine that keeps its runs in the order of their begins. It keeps them in a book, and beside it for each key who accessed
@@ -20,8 +19,8 @@ impl TimestampEngine {
     ghost use Rattle.mdb_base.specs.declared.acts.PlainAct.TheVariants.{Read, Write};
     ghost use Rattle.engine_contract.specs.Calls.{fresh_start};
     ghost use Rattle.run_book.specs.Held.{held_in};
-    ghost use Rattle.access_ages.specs.Ages.{ages_of};
-    ghost use Rattle.access_ages.specs.Stops.{key_stop, IsTicketStop};
+    ghost use Rattle.run_book.specs.Ages.{ages_of};
+    ghost use Rattle.run_book.specs.Stops.{key_stop, IsTicketStop};
     ghost use Rattle.timestamp_engine.specs.Stands.{Stands, EndsRun, StopsRun};
 
     /// An engine of a new site with these rows.

@@ -12,7 +12,8 @@ use Rattle.fed_rules.specs.declared.records.SiteRecord.TheVariants.{Setup, Start
 use Rattle.fed_rules.specs.Reopened.{home_by, local_read}
 use Rattle.fed_rules.specs.SiteRecords.{Held, Home, Install, doubt_of, installs}
 use Rattle.fed_rules.specs.Usable.{AreSumsOfSome, AreWithin, KeepClear, OnceEach, RiseBy, TicketsRise, counted, tickets}
-use Rattle.site_history.proofs.ForCallers.{SameDue, WritesNothing, all_due, carried_installs, doubt_prepared, doubt_tid, locals_undoubted}
+use Rattle.engine_laws.proofs.ForCallers.{doubt_tid}
+use Rattle.site_history.proofs.ForCallers.{SameDue, WritesNothing, all_due, carried_installs, doubt_prepared, locals_undoubted}
 use Rattle.usable_journals.specs.declared.fronts.Front.{Front}
 use Rattle.usable_journals.specs.Fronts.{AreInOrder, AreNew, FallByTicket, IsDoubt, IsNew, IsTakenAs, MayAllStand, TakesAll, Tells, below, held_read}
 use Rattle.usable_journals.proofs.FrontLaws.{AreAllApart, may_hold_from, new_or_old, still, was_doubt}

@@ -10,7 +10,8 @@ use Rattle.fed_rules.specs.declared.records.SiteRecord.{SiteRecord}
 use Rattle.fed_rules.specs.declared.records.SiteRecord.TheVariants.{Setup, Start, Prepared, Ended, Local, Checkpoint}
 use Rattle.fed_rules.specs.SiteRecords.{Held, Install, doubt_of, doubts, install_held, installs}
 use Rattle.fed_rules.specs.Usable.{AreBehind, DoubtsApart, IsBehind, KeepClear, LocalsOnTop, OfFronts, counted}
-use Rattle.site_history.proofs.ForCallers.{SameDue, all_due, are_doubts, counted_more, doubt_tid, doubts_are, inserted_in}
+use Rattle.engine_laws.proofs.ForCallers.{doubt_tid}
+use Rattle.site_history.proofs.ForCallers.{SameDue, all_due, are_doubts, counted_more, doubts_are, inserted_in}
 use Rattle.usable_journals.proofs.OnceLaws.{counted_behind}
 use Rattle.usable_journals.specs.Fronts.{AreInOrder, IsDoubt, IsNew, MayAllStand, MayStand}
 use Rattle.usable_journals.proofs.FrontLaws.{AreAllApart, apart_more, may_hold_from, new_or_old, newly, was_doubt}

@@ -22,7 +22,8 @@ use Rattle.fed_rules.specs.declared.records.SiteRecord.{SiteRecord}
 use Rattle.fed_rules.specs.declared.records.SiteRecord.TheVariants.{Setup, Start, Ended, Local, Checkpoint}
 use Rattle.fed_rules.specs.EngineLines.{has_row}
 use Rattle.fed_rules.specs.SiteRecords.{Held, Install, by_number, doubt_of, install_held, installs}
-use Rattle.site_history.proofs.ForCallers.{doubt_tid, inserted_in}
+use Rattle.engine_laws.proofs.ForCallers.{doubt_tid}
+use Rattle.site_history.proofs.ForCallers.{inserted_in}
 use Rattle.journal_sums.specs.Versions.{key_cmp}
 use Rattle.usable_journals.specs.declared.fronts.Front.{Front}
 use Rattle.usable_journals.specs.Fronts as tests

@@ -34,9 +34,8 @@ use Rattle.fed_rules.specs.Coord.{aborts, ack_counts, acked_while, again_while, 
 use Rattle.fed_rules.specs.CoordPast.{CoordHappening, CoordPast, Standing, Undecided, Decided, Gone, disk, is_open, has_acked, outstanding, participants, records, standing, trip, undecided_of}
 use Rattle.fed_rules.specs.CoordRecords.{commits, committed_of, named, required_of, coord_frame, is_nobody, coord_payload}
 use Rattle.fed_rules.specs.Policies.{Policy}
-use Rattle.site_history.proofs.ForCallers.{each_found_from}
+use Rattle.order_laws.proofs.ForCallers.{each_found_from, each_from, those_in}
 use Rattle.order_laws.specs.Chains.{In}
-use Rattle.order_laws.proofs.ForCallers.{each_from, those_in}
 use Rattle.presumptions.specs.Table.{acks}
 use Rattle.fed_rules.specs.Site_of.{due_site}
 use Rattle.coord_laws.proofs.ForCallers.{outstanding_site}

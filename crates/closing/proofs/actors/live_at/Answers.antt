@@ -2,7 +2,7 @@ use Rattle.std.proofs.Common.{is_some, sym, ap, ◌∙◌, subst}
 use Rattle.fed_rules.specs.SitePast.{live}
 use Rattle.fed_rules.specs.Closing as rules
 use Rattle.fed_rules.specs.Story.{past_of, story_in}
-use Rattle.rules_laws.proofs.ForCallers.{its-site}
+use Rattle.fed_rules.proofs.ForCallers.{its-site}
 use Rattle.site_book.specs.Listing.{Lists}
 use Rattle.closing.proofs.Cores.{on_ok}
 use Rattle.closing.proofs.Listed.{lives_in}

@@ -4,7 +4,7 @@ use Rattle.mdb_base.specs.Rising.{IsRising}
 use Rattle.presumptions.specs.declared.Participant.{Participant}
 use Rattle.fed_rules.specs.Coord.{decide_to}
 use Rattle.fed_rules.specs.declared.messages.Sent.{Sent}
-use Rattle.rules_laws.proofs.ForCallers.{decisions_rise}
+use Rattle.fed_rules.proofs.ForCallers.{decisions_rise}
 use Rattle.coord_tables.proofs.messages.decide_to.Goals as goal
 
 pub of_few-requires : goal.of_few-requires

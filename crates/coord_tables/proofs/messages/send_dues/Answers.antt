@@ -4,7 +4,7 @@ use Rattle.mdb_base.specs.Rising.{IsRising}
 use Rattle.fed_rules.specs.Coord.{send_due}
 use Rattle.fed_rules.specs.declared.messages.Due.{Due}
 use Rattle.fed_rules.specs.declared.messages.Sent.{Sent}
-use Rattle.rules_laws.proofs.ForCallers.{sends_rise}
+use Rattle.fed_rules.proofs.ForCallers.{sends_rise}
 use Rattle.coord_tables.proofs.messages.send_dues.Goals as goal
 
 pub of_few-requires : goal.of_few-requires

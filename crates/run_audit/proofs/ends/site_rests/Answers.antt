@@ -7,7 +7,7 @@ use Rattle.fed_rules.specs.SitePast.{live, records}
 use Rattle.fed_rules.specs.SiteRecords.{doubt_of}
 use Rattle.fed_rules.specs.Sessions.{fresh}
 use Rattle.fed_rules.specs.Story.{past_of, story_of}
-use Rattle.rules_laws.proofs.ForCallers.{its-site}
+use Rattle.fed_rules.proofs.ForCallers.{its-site}
 use Rattle.site_book.specs.Listing.{Lists}
 use Rattle.closing.proofs.ForCallers.{doubts_listed, live_listed}
 use Rattle.run_audit.proofs.Rests.{armed, nowhere, quiet, stopped}

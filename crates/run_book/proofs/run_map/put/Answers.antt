@@ -5,13 +5,13 @@ use Rattle.std.specs.Option.{MatchOption}
 use Rattle.run_book.specs.Held.{Held}
 use Rattle.run_book.specs.Named.{name_of, same_name}
 use Rattle.run_book.specs.declared.run_map.Name.{Name}
-use Rattle.run_book.proofs.RunMaps.{get-named, entries_put, named, promised-put}
+use Rattle.run_book.proofs.RunMaps.{get-named, runs_put, named, promised-put}
 use Rattle.run_book.proofs.run_map.put.Goals as goal
 
 pub returns-clause-put : goal.returns-clause-put
 returns-clause-put c =
     let es = c.args.runs.now.entries in
-    entries_put es _ c.args.tid c.args.run
+    runs_put es _ c.args.tid c.args.run
     (λ q. c.in_ok-insert.ensures.updates.0 (name_of q) ∙ ap (λ (n : Name). cond (same_name n (name_of q)) (Some c.args.run) (named es q)) c.of.ensures)
 
 pub returns-clause-promised : goal.returns-clause-promised

@@ -5,7 +5,7 @@ use Rattle.run_book.specs.Held.{Held}
 use Rattle.run_book.specs.Named.{by_tid, name_of, same_name}
 use Rattle.run_book.specs.Tables.{promised}
 use Rattle.run_book.specs.declared.run_map.Name.{Name}
-use Rattle.run_book.proofs.RunMaps.{get-named, entries_gone, named, promise_of, promised-gone}
+use Rattle.run_book.proofs.RunMaps.{get-named, runs_gone, named, promise_of, promised-gone}
 use Rattle.run_book.proofs.run_map.take_out.Goals as goal
 
 pub returns-clause-run : goal.returns-clause-run
@@ -16,7 +16,7 @@ returns-clause-run c =
 pub returns-clause-gone : goal.returns-clause-gone
 returns-clause-gone c =
     let es = c.args.runs.now.entries in
-    entries_gone es _ c.args.tid
+    runs_gone es _ c.args.tid
     (λ q. c.remove.ensures.updates.0 (name_of q) ∙ ap (λ (n : Name). cond (same_name n (name_of q)) None (named es q)) c.of.ensures)
 
 pub returns-clause-promised : goal.returns-clause-promised

@@ -1,7 +1,7 @@
 use Rattle.std.proofs.Common.{◌%◌, ◌^◌, ◌<◌, ◌∙◌, List, length, ap, arith}
 use Rattle.mdb_base.specs.declared.rows.Put.{Put}
 use Rattle.mdb_base.proofs.ForCallers.{slice_get-there}
-use Rattle.rules_laws.proofs.ForCallers.{its-site}
+use Rattle.fed_rules.proofs.ForCallers.{its-site}
 use Rattle.fed_rules.specs.Scenarios.{sites}
 use Rattle.fed_rules.specs.Story.{past_of, story_of}
 use Rattle.local_dbms.specs.Stands.{own_programs}

@@ -12,8 +12,9 @@ use Rattle.coord_core.specs.declared.coord.CoordCore.{CoordCore}
 use Rattle.coord_tables.specs.declared.stages.Stage.{Stage}
 use Rattle.coord_tables.specs.declared.tables.Tables.{Tables}
 use Rattle.coord_tables.specs.Stages.{stage_tickets}
-use Rattle.coord_tables.proofs.ForCallers.{abort_record_fits, abort_record_in_range, abort_serving, aborted, table_forgets}
+use Rattle.coord_tables.proofs.ForCallers.{abort_serving, aborted, table_forgets}
 use Rattle.coord_core.specs.Stands.{calls_for}
+use Rattle.coord_core.proofs.Fits.{abort_record_fits, abort_record_in_range}
 use Rattle.coord_core.proofs.Aborts.{abort_pending}
 use Rattle.coord_core.proofs.CalledLaws.{fails_behind, steps_behind}
 use Rattle.coord_core.proofs.Roomed.{stands_roomed}

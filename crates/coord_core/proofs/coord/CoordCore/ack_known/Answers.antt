@@ -9,8 +9,9 @@ use Rattle.protocol_table.specs.Ends.{after_ack}
 use Rattle.journal_disk.proofs.ForCallers.{none_at_most}
 use Rattle.actor_store.proofs.ForCallers.{from_kept}
 use Rattle.coord_core.specs.declared.coord.CoordCore.{CoordCore}
-use Rattle.coord_tables.proofs.ForCallers.{ack_line, decided_in_range, end_fits}
+use Rattle.coord_tables.proofs.ForCallers.{ack_line}
 use Rattle.coord_core.specs.Stands.{calls_for}
+use Rattle.coord_core.proofs.Fits.{decided_in_range, end_fits}
 use Rattle.coord_core.proofs.Acking.{ack_pending}
 use Rattle.coord_core.proofs.CalledLaws.{fails_behind, steps_behind}
 use Rattle.coord_core.proofs.Endings.{pending_quiet}

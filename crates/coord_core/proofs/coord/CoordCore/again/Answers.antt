@@ -5,7 +5,7 @@ use Rattle.fed_rules.specs.declared.answers.Answer.TheVariants as Say
 use Rattle.fed_rules.specs.declared.events.CoordEvent.TheVariants as Ev
 use Rattle.fed_rules.specs.Happenings.{quiet}
 use Rattle.fed_rules.specs.CoordPast.{is_open, known_decision, standing}
-use Rattle.rules_laws.proofs.ForCallers.{undecided_open}
+use Rattle.fed_rules.proofs.ForCallers.{undecided_open}
 use Rattle.coord_tables.proofs.ForCallers.{again_decided, again_gone, quiet_calm, said_told, stands_decided, stands_gone, stands_undecided, tells_calm}
 use Rattle.coord_core.proofs.Events.{calm_steps}
 use Rattle.coord_core.proofs.Still.{serves}

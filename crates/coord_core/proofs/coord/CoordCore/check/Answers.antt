@@ -15,7 +15,7 @@ use Rattle.coord_core.proofs.CalledLaws.{fails_behind, steps_behind}
 use Rattle.coord_core.proofs.Checks.{check_large, check_line, check_pending, checkpoint_fits, sum_is}
 use Rattle.coord_core.proofs.Endings.{pending_failed, pending_made, pending_stopped}
 use Rattle.coord_core.proofs.Roomed.{stands_roomed}
-use Rattle.coord_tables.proofs.ForCallers.{sum_in_range}
+use Rattle.coord_core.proofs.SumRanges.{sum_in_range}
 use Rattle.coord_core.proofs.coord.CoordCore.check.Goals as goal
 
 pub returns-then-is_large-clause-answered : goal.returns-then-is_large-clause-answered

@@ -11,7 +11,7 @@ use Rattle.actor_store.proofs.ForCallers.{from_done, from_failed, from_stopped}
 use Rattle.coord_tables.specs.Starting.{BeginWith, kept_by}
 use Rattle.coord_core.proofs.Backs.{back_done, back_failed, back_records, back_stopped, up_line}
 use Rattle.coord_core.proofs.Checks.{sum_is}
-use Rattle.coord_tables.proofs.ForCallers.{begin_serving, kept_apart, known_count, known_few}
+use Rattle.coord_core.proofs.Starts.{begin_serving, kept_apart, known_count, known_few}
 use Rattle.coord_core.proofs.coord.CoordCore.come_up.Goals as goal
 
 pub restart-requires : goal.restart-requires

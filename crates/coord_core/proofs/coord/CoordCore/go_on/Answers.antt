@@ -1,7 +1,7 @@
 use Rattle.std.proofs.Common.{refl, ◌∙◌}
 use Rattle.mdb_base.proofs.ForCallers.{map_err, map_ok}
 use Rattle.fed_rules.specs.Coord.{may_take}
-use Rattle.rules_laws.proofs.ForCallers.{counts_open}
+use Rattle.fed_rules.proofs.ForCallers.{counts_open}
 use Rattle.coord_tables.specs.Replies.{reply_event}
 use Rattle.coord_tables.proofs.ForCallers.{counts_are, did_sending, news_are}
 use Rattle.coord_core.proofs.Still.{serves}

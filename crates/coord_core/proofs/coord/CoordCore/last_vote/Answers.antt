@@ -25,8 +25,9 @@ use Rattle.coord_tables.specs.Trees.{Tree, committed_in, entry_of}
 use Rattle.mdb_base.specs.Names.{same_tx}
 use Rattle.mdb_base.proofs.ForCallers.{map_err, map_ok}
 use Rattle.coord_tables.specs.Voting.{vote_event}
-use Rattle.coord_tables.proofs.ForCallers.{HasDecided, commit_fits, commit_in_range, committed, cycle_aborting, lacks_decision, last_open, one_each}
+use Rattle.coord_tables.proofs.ForCallers.{HasDecided, committed, cycle_aborting, lacks_decision, last_open, one_each}
 use Rattle.coord_core.proofs.CalledLaws.{fails_behind, steps_behind}
+use Rattle.coord_core.proofs.Fits.{commit_fits, commit_in_range}
 use Rattle.coord_core.proofs.Committing.{commit_pending, core_same, stands_as}
 use Rattle.coord_core.proofs.Still.{serves, up_is}
 use Rattle.coord_core.proofs.coord.CoordCore.last_vote.Goals as goal

@@ -10,8 +10,9 @@ use Rattle.coord_core.specs.declared.coord.CoordCore.{CoordCore}
 use Rattle.coord_core.specs.Pending.{IsPending}
 use Rattle.coord_core.specs.Stands.{calls_for}
 use Rattle.coord_tables.specs.Sending.{after_taken}
-use Rattle.coord_tables.proofs.ForCallers.{initiates_is, initiation_fits, initiation_in_range, sent_line, sent_tables}
+use Rattle.coord_tables.proofs.ForCallers.{initiates_is, sent_line, sent_tables}
 use Rattle.coord_core.proofs.CalledLaws.{fails_behind, steps_behind}
+use Rattle.coord_core.proofs.Fits.{initiation_fits, initiation_in_range}
 use Rattle.coord_core.proofs.Endings.{pending_quiet}
 use Rattle.coord_core.proofs.Sent.{sent_pending}
 use Rattle.coord_core.proofs.Roomed.{stands_roomed}

@@ -8,7 +8,8 @@ use Rattle.ticket_graph.specs.Graph.{Graph, StandsFor}
 use Rattle.coord_core.specs.declared.coord.CoordCore.{CoordCore}
 use Rattle.coord_tables.specs.Starting.{ticketed_by}
 use Rattle.coord_core.proofs.Checks.{sum_is}
-use Rattle.coord_tables.proofs.ForCallers.{commits_free, fresh_apart, graph_stands, not_kept}
+use Rattle.coord_core.proofs.Starts.{commits_free, fresh_apart, graph_stands}
+use Rattle.coord_tables.proofs.ForCallers.{not_kept}
 use Rattle.coord_core.proofs.Still.{serves}
 use Rattle.coord_core.proofs.coord.CoordCore.try_tickets.Goals as goal
 

@@ -1,6 +1,6 @@
 use Rattle.std.proofs.Common.{sym, ap, ◌∙◌, refl}
 use Rattle.std.specs.Prelude.{reverse}
-use Rattle.rules_laws.proofs.ForCallers.{carried_none}
+use Rattle.fed_rules.proofs.ForCallers.{carried_none}
 use Rattle.journal_sums.specs.Versions.{version_in}
 use Rattle.journal_sums.proofs.reading.Reading.of.Goals as goal
 

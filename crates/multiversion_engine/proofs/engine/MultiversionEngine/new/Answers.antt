@@ -2,8 +2,8 @@ use Rattle.std.proofs.Common.{None, [], Option, ap, ◌∙◌}
 use Rattle.std.specs.FinMap.{get-empty}
 use Rattle.std.specs.Ordering.{nat_cmp}
 use Rattle.mdb_base.specs.declared.names.Key.{Key}
-use Rattle.access_ages.specs.Ages.{Ages, ages_of, no_ages}
-use Rattle.access_ages.specs.declared.key_ages.KeyAges.{KeyAges}
+use Rattle.run_book.specs.Ages.{Ages, ages_of, no_ages}
+use Rattle.run_book.specs.declared.key_ages.KeyAges.{KeyAges}
 use Rattle.mdb_base.specs.Words.{or_else}
 use Rattle.multiversion_engine.proofs.Starts.{stands_started}
 use Rattle.multiversion_engine.proofs.engine.MultiversionEngine.new.Goals as goal

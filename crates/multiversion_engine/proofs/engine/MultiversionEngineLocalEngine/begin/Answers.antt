@@ -3,12 +3,11 @@ use Rattle.std.specs.FinMap.{get, insert, remove}
 use Rattle.std.proofs.lemmas.Result.{on_err_weaker}
 use Rattle.mdb_base.specs.declared.names.Engine.TheVariants.{Multiversion}
 use Rattle.fed_rules.specs.Runs.{Start, EngineLine, Begins, counter, run_at}
-use Rattle.access_ages.proofs.ForCallers.{put-gone}
+use Rattle.run_book.proofs.ForCallers.{age-le, free_after, if_ok-both, put-gone}
 use Rattle.run_book.specs.declared.counters.Counters.{Counters}
 use Rattle.run_book.specs.Book.{begins}
-use Rattle.run_book.proofs.ForCallers.{age-le, free_after, if_ok-both}
 use Rattle.multiversion_engine.specs.declared.engine.MultiversionEngine.{MultiversionEngine}
-use Rattle.access_ages.specs.Takers.{ByAge}
+use Rattle.run_book.specs.Takers.{ByAge}
 use Rattle.multiversion_engine.specs.Stands.{Stands}
 use Rattle.multiversion_engine.proofs.Ages.{no_age}
 use Rattle.multiversion_engine.proofs.Lines.{stands_begins, stands_kept}

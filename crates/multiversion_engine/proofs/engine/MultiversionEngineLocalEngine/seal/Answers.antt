@@ -1,7 +1,7 @@
 use Rattle.std.proofs.Common.{◌≡◌, ℕ, ◌+◌, Bool, is_some, cond, None, IfSome, Option, refl, sym, ap, ◌∙◌}
 use Rattle.std.proofs.lemmas.Option.{same_Some}
 use Rattle.mdb_base.specs.declared.names.Engine.TheVariants.{Multiversion}
-use Rattle.access_ages.specs.Takers.{Takers}
+use Rattle.run_book.specs.Takers.{Takers}
 use Rattle.run_book.specs.Held.{Held}
 use Rattle.run_book.proofs.ForCallers.{if_found, sealable_held}
 use Rattle.multiversion_engine.proofs.Replies.{next_ticket, stands_sealed}

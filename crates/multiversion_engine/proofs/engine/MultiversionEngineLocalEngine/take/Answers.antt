@@ -3,14 +3,13 @@ use Rattle.std.specs.FinMap.{get, remove}
 use Rattle.std.proofs.lemmas.Option.{same_Some}
 use Rattle.mdb_base.specs.declared.names.Engine.TheVariants.{Multiversion}
 use Rattle.fed_rules.specs.Replies.{age_of}
-use Rattle.access_ages.specs.Takers.{ByAge, Takers, with_taker}
-use Rattle.access_ages.specs.Stops.{IsTicketStop}
-use Rattle.access_ages.proofs.ForCallers.{put-gone, unlisted}
+use Rattle.run_book.specs.Takers.{ByAge, Takers, with_taker}
+use Rattle.run_book.specs.Stops.{IsTicketStop}
+use Rattle.run_book.proofs.ForCallers.{put-gone, run_at-held, ticketless_held, unlisted}
 use Rattle.run_book.specs.declared.rival.Rival.{Rival}
 use Rattle.run_book.specs.Rivals.{rival_by}
 use Rattle.run_book.specs.Held.{Held}
 use Rattle.run_book.specs.Book.{tickets}
-use Rattle.run_book.proofs.ForCallers.{run_at-held, ticketless_held}
 use Rattle.multiversion_engine.proofs.Lines.{stands_kept}
 use Rattle.multiversion_engine.proofs.Replies.{stands_ticket_stopped, stands_took}
 use Rattle.multiversion_engine.proofs.engine.MultiversionEngineLocalEngine.take.Goals as goal

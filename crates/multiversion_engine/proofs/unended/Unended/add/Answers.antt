@@ -1,7 +1,7 @@
 use Rattle.std.proofs.Common.{ap, ◌∙◌}
 use Rattle.std.specs.FinMap.{insert}
-use Rattle.access_ages.specs.Takers.{ByAge}
-use Rattle.access_ages.proofs.ForCallers.{entries_put}
+use Rattle.run_book.specs.Takers.{ByAge}
+use Rattle.run_book.proofs.ForCallers.{entries_put}
 use Rattle.multiversion_engine.proofs.unended.Unended.add.Goals as goal
 
 pub returns-clause-added : goal.returns-clause-added

@@ -1,5 +1,5 @@
 use Rattle.std.proofs.Common.{true, false, subst}
-use Rattle.access_ages.specs.Takers.{ByAge}
+use Rattle.run_book.specs.Takers.{ByAge}
 use Rattle.multiversion_engine.specs.Unended.{AreWithin}
 use Rattle.multiversion_engine.proofs.ByAge.{some_within, none_within}
 use Rattle.multiversion_engine.proofs.unended.Unended.any_within.Goals as goal

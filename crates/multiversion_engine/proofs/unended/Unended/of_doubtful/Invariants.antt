@@ -1,6 +1,6 @@
 use Rattle.std.proofs.Common.{◌≡◌, drop}
 use Rattle.std.specs.FinMap.{empty}
-use Rattle.access_ages.specs.Takers.{restored_takers}
+use Rattle.run_book.specs.Takers.{restored_takers}
 use Rattle.multiversion_engine.proofs.unended.Unended.of_doubtful.Given as goal
 
 abbrev pub invariant-loop-kept : goal.invariant-loop-kept

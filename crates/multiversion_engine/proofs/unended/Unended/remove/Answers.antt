@@ -1,7 +1,7 @@
 use Rattle.std.proofs.Common.{ap, ◌∙◌}
 use Rattle.std.specs.FinMap.{remove}
-use Rattle.access_ages.specs.Takers.{ByAge}
-use Rattle.access_ages.proofs.ForCallers.{entries_gone}
+use Rattle.run_book.specs.Takers.{ByAge}
+use Rattle.run_book.proofs.ForCallers.{entries_gone}
 use Rattle.multiversion_engine.proofs.unended.Unended.remove.Goals as goal
 
 pub returns : goal.returns

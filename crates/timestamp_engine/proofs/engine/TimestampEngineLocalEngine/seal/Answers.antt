@@ -4,7 +4,7 @@ use Rattle.mdb_base.specs.declared.names.Engine.TheVariants.{Timestamp}
 use Rattle.fed_rules.specs.Runs.{Seals}
 use Rattle.run_book.specs.Held.{Held}
 use Rattle.run_book.proofs.ForCallers.{if_found, sealable_held}
-use Rattle.access_ages.specs.Takers.{Takers}
+use Rattle.run_book.specs.Takers.{Takers}
 use Rattle.timestamp_engine.proofs.Lines.{at, next_ticket, right_seal, stands_called}
 use Rattle.timestamp_engine.proofs.engine.TimestampEngineLocalEngine.seal.Goals as goal
 

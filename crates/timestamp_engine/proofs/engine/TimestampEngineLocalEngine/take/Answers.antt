@@ -10,10 +10,9 @@ use Rattle.run_book.specs.declared.rival.Rival.{Rival}
 use Rattle.run_book.specs.Book.{tickets}
 use Rattle.run_book.specs.Held.{Held}
 use Rattle.run_book.specs.Rivals.{rival_by}
-use Rattle.run_book.proofs.ForCallers.{of_found, ticketless_held}
-use Rattle.access_ages.specs.Takers.{ByAge, Takers, with_taker}
-use Rattle.access_ages.specs.Stops.{IsTicketStop}
-use Rattle.access_ages.proofs.ForCallers.{put-gone}
+use Rattle.run_book.proofs.ForCallers.{of_found, put-gone, ticketless_held}
+use Rattle.run_book.specs.Takers.{ByAge, Takers, with_taker}
+use Rattle.run_book.specs.Stops.{IsTicketStop}
 use Rattle.timestamp_engine.proofs.Lines.{at, no_taker, right_take, stands_called, stands_same, stands_ticket_stopped}
 use Rattle.timestamp_engine.proofs.engine.TimestampEngineLocalEngine.take.Goals as goal
 

@@ -11,9 +11,9 @@ use Rattle.run_book.specs.Book.{grants}
 use Rattle.run_book.specs.Held.{Held}
 use Rattle.run_book.specs.Rivals.{rival_by}
 use Rattle.run_book.proofs.ForCallers.{live_held, of_found}
-use Rattle.access_ages.specs.declared.key_ages.KeyAges.{KeyAges}
-use Rattle.access_ages.specs.Ages.{ages_of, with_writer}
-use Rattle.access_ages.specs.Stops.{key_stop}
+use Rattle.run_book.specs.declared.key_ages.KeyAges.{KeyAges}
+use Rattle.run_book.specs.Ages.{ages_of, with_writer}
+use Rattle.run_book.specs.Stops.{key_stop}
 use Rattle.timestamp_engine.proofs.Lines.{at, right_access, stands_called, stands_stopped}
 use Rattle.timestamp_engine.proofs.engine.TimestampEngineLocalEngine.write.Goals as goal
 

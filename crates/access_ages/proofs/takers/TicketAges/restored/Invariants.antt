@@ -1,9 +1,0 @@
-use Rattle.std.proofs.Common.{◌≡◌, drop}
-use Rattle.std.specs.FinMap.{empty}
-use Rattle.access_ages.specs.Takers.{no_takers, restored_takers}
-use Rattle.access_ages.proofs.takers.TicketAges.restored.Given as goal
-
-abbrev pub invariant-loop-kept : goal.invariant-loop-kept
-invariant-loop-kept l =
-    record l.takers { unended = restored_takers (drop l.kept-index l.doubtful) l.takers.unended }
-    ≡ record no_takers { unended = restored_takers l.doubtful empty }

@@ -1,5 +1,0 @@
-use Rattle.rules_laws.proofs.Lines.{line_is}
-use Rattle.rules_laws.proofs.site_laws.each_line_is_asked_for.Goals as goal
-
-pub returns : goal.returns
-returns c = λ scenario story command. line_is scenario story command

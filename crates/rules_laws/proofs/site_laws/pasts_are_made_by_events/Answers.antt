@@ -1,5 +1,0 @@
-use Rattle.rules_laws.proofs.Pasts.{pasts-made}
-use Rattle.rules_laws.proofs.site_laws.pasts_are_made_by_events.Goals as goal
-
-pub returns : goal.returns
-returns c = λ scenario commands site home declared. pasts-made scenario commands site home declared
