@@ -1,6 +1,6 @@
 pub mod ForCallers
 mod Asked
-mod Asks
+mod Asking
 mod Fit
 mod Lines
 mod Owned

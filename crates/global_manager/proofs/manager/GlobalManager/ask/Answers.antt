@@ -5,7 +5,7 @@ use Rattle.coord_core.specs.Steps.{FailsOn, StepsOn}
 use Rattle.global_manager.specs.declared.requests.Request.TheVariants as Asked_is
 use Rattle.global_manager.specs.Asks.{CanAsk, coord_request}
 use Rattle.global_manager.specs.Stands.{EachManaged, Fails, Serves, Stands}
-use Rattle.global_manager.proofs.Asks.{answers, declines, may_serve, refuses}
+use Rattle.global_manager.proofs.Asking.{answers, declines, may_serve, refuses}
 use Rattle.global_manager.proofs.manager.GlobalManager.ask.Goals as goal
 
 pub returns-in_default-clause-failed : goal.returns-in_default-clause-failed

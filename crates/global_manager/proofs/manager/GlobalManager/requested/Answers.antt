@@ -7,7 +7,7 @@ use Rattle.global_manager.specs.declared.asks.CoordAsk.TheVariants as Coord
 use Rattle.global_manager.specs.declared.requests.Request.{Request as Asked}
 use Rattle.global_manager.specs.Asks.{CanAsk, coord_request}
 use Rattle.global_manager.specs.Stands.{CanServe, EachManaged, OwnPrograms, Recalls, request_of}
-use Rattle.global_manager.proofs.Asks.{by_variant}
+use Rattle.global_manager.proofs.Asking.{by_variant}
 use Rattle.global_manager.proofs.manager.GlobalManager.requested.Goals as goal
 
 pub returns-in-Go-clause-asked : goal.returns-in-Go-clause-asked
