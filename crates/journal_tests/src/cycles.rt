@@ -58,7 +58,20 @@ fn ticket(site: u8, ticket: u64) -> SiteTicket
     }
 }
 
-fn journal_of(alloc: Global, commits: &[(u32, &[(u8, u64)])]) -> Result<Vec<CoordRecord>, Memory> {
+// The tickets of a commit, at two sites at most.
+fn tickets_of(alloc: Global, tickets: &[(u8, u64)]) -> Result<Tickets, Fail> {
+    match tickets {
+        [] => Ok(Tickets::of(Vec::new(alloc))),
+        [one] => Ok(Tickets::of(vec![in alloc; ticket(one.0, one.1)]?)),
+        [one, two] if one.0 < two.0 => {
+            let both = vec![in alloc; ticket(one.0, one.1), ticket(two.0, two.1)]?;
+            Ok(Tickets::of(both))
+        }
+        _ => Err(Fail::from("tickets are of two sites that rise")),
+    }
+}
+
+fn journal_of(alloc: Global, commits: &[(u32, &[(u8, u64)])]) -> Result<Vec<CoordRecord>, Fail> {
     let mut records = Vec::new(alloc);
     for (tx, tickets) in commits {
         let tid = Tid {
