@@ -36,8 +36,8 @@ FLOORS = [
      "line_text trace_lines scenario_text report_text audit_text scenario_maker"),
     ("bytes", "Bytes and disks", "one format each; touches its own bytes and its own disk",
      "actor_store journal_rules site_journal coord_journal frame_journal file_disks journal_disk fed_messages record_fields field_bytes byte_numbers"),
-    ("printed", "Laws of lines and hosts", "touch definitions, those of parts and texts too",
-     "line_laws replay_laws made_laws host_laws left_disks"),
+    ("printed", "Laws of lines and hosts", "touch definitions, those of actors, parts and texts too",
+     "line_laws replay_laws made_laws host_laws left_disks held_disks"),
     ("theorems", "Theorems", "touch definitions alone",
      "audit_laws resume_laws found_laws disk_laws progress_laws closing_laws refuted_rules sum_laws federation_laws world_laws commit_laws coord_laws "
      "site_history engine_laws"),
@@ -135,6 +135,8 @@ def way(floor, other, box):
     to_left, to_top, to_width, to_height = box[other]
     if floor == "threads" and other == "printed":
         return [(left, top + height / 2), (to_left + to_width / 2, top + height / 2), (to_left + to_width / 2, to_top)]
+    if floor == "printed" and other == "actors":
+        return [(left + width / 2, top + height), (left + width / 2, to_top + to_height / 2), (to_left, to_top + to_height / 2)]
     if floor == "printed":
         return [(left + width / 2, top + height), (left + width / 2, to_top - 16), (to_left + 40, to_top - 16), (to_left + 40, to_top)]
     if floor == "parts" and other == "bytes":

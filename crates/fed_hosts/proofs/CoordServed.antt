@@ -1,5 +1,5 @@
 -- What a call of the coordinator's host leaves.
-use Rattle.std.proofs.Common.{Err, ◌≡◌, ℕ, ◌<◌, Bool, true, false, cond, Option, None, List, [], ◌∷◌, ◌++◌, length, refl, sym, ap, ◌∙◌, subst, arith}
+use Rattle.std.proofs.Common.{Err, ◌≡◌, ℕ, ◌<◌, Bool, true, false, cond, Option, None, List, [], ◌∷◌, ◌++◌, length, inl, inr, refl, sym, ap, ◌∙◌, subst, arith}
 use Rattle.mdb_base.specs.declared.names.SiteId.{SiteId}
 use Rattle.mdb_base.specs.Counts.{HasCauseOf}
 use Rattle.mdb_base.specs.Names.{same_site}
@@ -127,15 +127,16 @@ module _ {P D : Type 0} (test : P → Policy) (tells : Bool) (seen : D → Seen)
         kept = coord_kept_same (record old { manager = manager; disk = disk }) new same plan k.turns (coord_kept_for old manager disk plan k.turns k.kept);
         moved_on = moved_same_ports old.ports.items new.ports.items same.ports k.moved_on;
         heard = k.heard;
-        standing = subst (λ (d : D). IsCoordStanding test tells (has_failed why) new.manager (seen d) plan (backs_of new.ports.items) k.turns) (sym same.disk)
-            (subst (λ (m : GlobalManager P). IsCoordStanding test tells (has_failed why) m (seen disk) plan (backs_of new.ports.items) k.turns) (sym same.manager) (standing why request refl fails));
+        standing = subst (λ (d : D). IsCoordStanding (Stands test tells new.manager (seen d) plan.terms plan.programs) (has_failed why) plan (backs_of new.ports.items) k.turns) (sym same.disk)
+            (subst (λ (m : GlobalManager P). IsCoordStanding (Stands test tells m (seen disk) plan.terms plan.programs) (has_failed why) plan (backs_of new.ports.items) k.turns) (sym same.manager) (standing why request refl fails));
         faults = subst (λ (d : D). IsCounting (has_failed why) plan.faults (seen d).faults) (sym same.disk) (subst (λ (n : ℕ). IsCounting (has_failed why) n (seen disk).faults) k.faults (counting _ _ why cause));
       }
     where
       standing : (w : StepErr) (r : Request CoordEvent) → request ≡ r → Fails (Stands test tells manager (seen disk)) w plan.terms plan.programs (coord_past_of plan k.turns) r
-          → IsCoordStanding test tells (has_failed w) manager (seen disk) plan (backs_of new.ports.items) k.turns
+          → IsCoordStanding (Stands test tells manager (seen disk) plan.terms plan.programs) (has_failed w) plan (backs_of new.ports.items) k.turns
       standing Err_is.Memory r e f = f
-      standing Err_is.Disk (Submits event) e f = record { event = event; unfinished = could event e; stood = f }
+      standing Err_is.Disk (Submits event) e (inl f) = record { event = event; unfinished = could event e; stop = inl (f.cut, f.stood) }
+      standing Err_is.Disk (Submits event) e (inr f) = record { event = event; unfinished = could event e; stop = inr (f.calls, f.cut, f.stops, f.stood) }
       standing Err_is.Disk (Declines answer) e f = absurd f
 
   -- what a line leaves

@@ -81,9 +81,9 @@ module _ {E D : Type 0} (stands : E → Start → List EngineLine → Type 0) (t
     kept = kept_same old new same k.plan k.turns k.kept;
     moved_on = moved_same old.ends.outlet new.ends.outlet same.waiting same.free k.moved_on;
     heard = subst (λ (i : Inlet). HasHeard k.plan.programs (taken i) (found (λ (t : SiteTurn). t.took) k.turns)) (sym same.inlet) k.heard;
-    standing = subst (λ (d : D). IsStanding stands tells failed new.dbms (seen d) k.plan (returned new.ends.inlet) k.turns) (sym same.disk)
-        (subst (λ (m : LocalDbms E). IsStanding stands tells failed m (seen old.disk) k.plan (returned new.ends.inlet) k.turns) (sym same.dbms)
-        (subst (λ (i : Inlet). IsStanding stands tells failed old.dbms (seen old.disk) k.plan (returned i) k.turns) (sym same.inlet) k.standing));
+    standing = subst (λ (d : D). IsStanding (Stands stands tells new.dbms (seen d) k.plan.home k.plan.programs) failed k.plan (returned new.ends.inlet) k.turns) (sym same.disk)
+        (subst (λ (m : LocalDbms E). IsStanding (Stands stands tells m (seen old.disk) k.plan.home k.plan.programs) failed k.plan (returned new.ends.inlet) k.turns) (sym same.dbms)
+        (subst (λ (i : Inlet). IsStanding (Stands stands tells old.dbms (seen old.disk) k.plan.home k.plan.programs) failed k.plan (returned i) k.turns) (sym same.inlet) k.standing));
     faults = subst (λ (d : D). IsCounting failed k.plan.faults (seen d).faults) (sym same.disk) k.faults;
   }
 
@@ -115,12 +115,12 @@ module _ {E D : Type 0} (stands : E → Start → List EngineLine → Type 0) (t
     kept = kept_same (record old { dbms = dbms; disk = disk }) new same k.plan k.turns (kept_beside old dbms disk k.plan k.turns k.kept);
     moved_on = moved_same old.ends.outlet new.ends.outlet same.waiting same.free k.moved_on;
     heard = k.heard;
-    standing = subst (λ (d : D). IsStanding stands tells (has_failed why) new.dbms (seen d) k.plan (returned new.ends.inlet) k.turns) (sym same.disk)
-        (subst (λ (m : LocalDbms E). IsStanding stands tells (has_failed why) m (seen disk) k.plan (returned new.ends.inlet) k.turns) (sym same.dbms) (standing why request refl fails));
+    standing = subst (λ (d : D). IsStanding (Stands stands tells new.dbms (seen d) k.plan.home k.plan.programs) (has_failed why) k.plan (returned new.ends.inlet) k.turns) (sym same.disk)
+        (subst (λ (m : LocalDbms E). IsStanding (Stands stands tells m (seen disk) k.plan.home k.plan.programs) (has_failed why) k.plan (returned new.ends.inlet) k.turns) (sym same.dbms) (standing why request refl fails));
     faults = subst (λ (d : D). IsCounting (has_failed why) k.plan.faults (seen d).faults) (sym same.disk) (subst (λ (n : ℕ). IsCounting (has_failed why) n (seen disk).faults) k.faults (counting _ _ why cause));
   } where
     standing : (w : StepErr) (r : Request SiteEvent) → request ≡ r → Fails (Stands stands tells dbms (seen disk)) w k.plan.home k.plan.programs (past_of k.plan k.turns) r
-        → IsStanding stands tells (has_failed w) dbms (seen disk) k.plan (returned new.ends.inlet) k.turns
+        → IsStanding (Stands stands tells dbms (seen disk) k.plan.home k.plan.programs) (has_failed w) k.plan (returned new.ends.inlet) k.turns
     standing Err_is.Memory r e f = f
-    standing Err_is.Disk (Submits event) e f = record { event = event; unfinished = could event e; at = f.0; stood = f.1 }
+    standing Err_is.Disk (Submits event) e f = record { event = event; unfinished = could event e; stop = f }
     standing Err_is.Disk (Declines answer) e f = absurd f

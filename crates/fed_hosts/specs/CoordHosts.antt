@@ -52,7 +52,7 @@ pub record IsHeldCoord {P D : Type 0} (test : P → Policy) (tells : Bool) (seen
   pub short : length turns ≤ most_lines
   pub few : (tx : Tx) → coord_begun_in tx turns ≤ most_begun
   pub settled : length turns < most_lines → coord_is_due plan turns ≡ false
-  pub standing : IsCoordStanding test tells parts.failed parts.manager (seen parts.disk) plan (backs_of parts.ports.items) turns
+  pub standing : IsCoordStanding (Stands test tells parts.manager (seen parts.disk) plan.terms plan.programs) parts.failed plan (backs_of parts.ports.items) turns
   pub faults : IsCounting parts.failed plan.faults (seen parts.disk).faults
 
 -- it is what was seen of the host

@@ -1,5 +1,5 @@
 -- What the coordinator's host keeps.
-use Rattle.std.specs.Prelude.{◌≡◌, ◌+◌, ◌*◌, ◌<◌, ◌≤◌, ◌^◌, ◌⊎◌, Bool, true, false, ℕ, Option, Some, List, length, map, reverse, option_map, slice_get}
+use Rattle.std.specs.Prelude.{◌≡◌, ◌+◌, ◌*◌, ◌<◌, ◌≤◌, ◌^◌, Bool, true, false, ℕ, Option, Some, List, length, map, reverse, option_map, slice_get}
 use Rattle.mdb_base.specs.declared.names.SiteId.{SiteId}
 use Rattle.mdb_base.specs.declared.names.Tx.{Tx}
 use Rattle.mdb_base.specs.Words.{Each}
@@ -8,14 +8,14 @@ use Rattle.fed_rules.specs.declared.commands.Command.{Command}
 use Rattle.fed_rules.specs.declared.commands.Command.TheVariants as Cmd
 use Rattle.fed_rules.specs.declared.events.CoordEvent.{CoordEvent}
 use Rattle.fed_rules.specs.declared.messages.FromSite.{FromSite}
-use Rattle.fed_rules.specs.CoordPast.{attempts_of}
+use Rattle.fed_rules.specs.CoordPast.{CoordPast, attempts_of}
 use Rattle.fed_rules.specs.Policies.{Policy}
 use Rattle.fed_rules.specs.Requests.{Submits}
 use Rattle.fed_messages.specs.declared.Envelope.{Envelope}
 use Rattle.fed_messages.specs.declared.Packet.{Packet}
 use Rattle.journal_disk.specs.Disk.{Seen}
-use Rattle.global_manager.specs.declared.manager.GlobalManager.{GlobalManager}
-use Rattle.global_manager.specs.Stands.{Stands, StopsBefore, StopsWithin}
+use Rattle.global_manager.specs.Stands.{Stands}
+use Rattle.held_disks.specs.Stops.{CoordStopsWithin}
 use Rattle.scripted_link.specs.Inlets.{inlet_ring, taken}
 use Rattle.scripted_link.specs.Outlets.{offered, outlet_wire}
 use Rattle.scripted_link.specs.Rings.{Wire}
@@ -90,17 +90,17 @@ pub record IsCoordUnfinished (plan : CoordPlan) (backs : List (Option Packet)) (
   pub borne : IsBorneFrom plan backs command took
   pub is : coord_request plan (coord_past_of plan turns) command took ≡ Submits event
 
--- what a failed disk call leaves: what a stop before one further event, or within it, leaves, which a command of the host left unfinished
-pub record IsCoordBroken {P : Type 0} (test : P → Policy) (tells : Bool) (manager : GlobalManager P) (disk : Seen) (plan : CoordPlan) (backs : List (Option Packet)) (turns : List CoordTurn) : Type 0 where
+-- what a failed disk call leaves: this holds of what a stop before one further event, or within it, leaves, which a command of the host left
+-- unfinished
+pub record IsCoordBroken (M : CoordPast → Type 0) (plan : CoordPlan) (backs : List (Option Packet)) (turns : List CoordTurn) : Type 0 where
   pub event : CoordEvent
   pub unfinished : IsCoordUnfinished plan backs turns event
-  pub stood : StopsBefore (Stands test tells manager disk) plan.terms plan.programs (coord_past_of plan turns)
-      ⊎ StopsWithin (Stands test tells manager disk) plan.terms plan.programs (coord_past_of plan turns) event
+  pub stop : CoordStopsWithin M plan.terms (coord_past_of plan turns) event
 
--- until a disk call fails, the coordinator stands for what the events of the lines made
-abbrev pub IsCoordStanding : {P : Type 0} → (P → Policy) → Bool → Bool → GlobalManager P → Seen → CoordPlan → List (Option Packet) → List CoordTurn → Type 0
-IsCoordStanding test tells false manager disk plan backs turns = Stands test tells manager disk plan.terms plan.programs (coord_past_of plan turns)
-IsCoordStanding test tells true manager disk plan backs turns = IsCoordBroken test tells manager disk plan backs turns
+-- until a disk call fails, this holds of what the events of the lines made
+abbrev pub IsCoordStanding : (CoordPast → Type 0) → Bool → CoordPlan → List (Option Packet) → List CoordTurn → Type 0
+IsCoordStanding M false plan backs turns = M (coord_past_of plan turns)
+IsCoordStanding M true plan backs turns = IsCoordBroken M plan backs turns
 
 -- the envelopes that the lines took from each site are those that the packets from it bear
 abbrev pub HaveHeard : List CoordTurn → List Port → Type 0
@@ -113,7 +113,7 @@ pub record CoordKeepsFor {P D : Type 0} (test : P → Policy) (tells : Bool) (se
   pub kept : IsCoordKept plan turns actor
   pub moved_on : HaveMovedOn actor.ports.items
   pub heard : HaveHeard turns ports
-  pub standing : IsCoordStanding test tells failed actor.manager (seen actor.disk) plan (backs_of actor.ports.items) turns
+  pub standing : IsCoordStanding (Stands test tells actor.manager (seen actor.disk) plan.terms plan.programs) failed plan (backs_of actor.ports.items) turns
   pub faults : IsCounting failed plan.faults (seen actor.disk).faults
 
 -- where it has answered for all that it took

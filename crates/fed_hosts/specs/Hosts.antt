@@ -50,7 +50,7 @@ pub record IsHeld {E D : Type 0} (stands : E → Start → List EngineLine → T
   pub short : length turns ≤ most_lines
   pub few : (tx : Tx) → begun_in tx turns ≤ most_begun
   pub settled : length turns < most_lines → is_due plan turns ≡ false
-  pub standing : IsStanding stands tells parts.failed parts.dbms (seen parts.disk) plan (returned parts.ends.inlet) turns
+  pub standing : IsStanding (Stands stands tells parts.dbms (seen parts.disk) plan.home plan.programs) parts.failed plan (returned parts.ends.inlet) turns
   pub faults : IsCounting parts.failed plan.faults (seen parts.disk).faults
 
 -- it is what was seen of the host

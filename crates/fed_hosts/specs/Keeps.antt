@@ -10,12 +10,11 @@ use Rattle.fed_rules.specs.declared.scenario.StopLine.{StopLine}
 use Rattle.fed_rules.specs.OwnPrograms.{OwnPrograms}
 use Rattle.fed_rules.specs.Requests.{Submits}
 use Rattle.fed_rules.specs.Runs.{Start, EngineLine}
-use Rattle.fed_rules.specs.SitePast.{attempts_of}
+use Rattle.fed_rules.specs.SitePast.{SitePast, attempts_of}
 use Rattle.fed_messages.specs.declared.Envelope.{Envelope}
 use Rattle.fed_messages.specs.declared.Packet.{Packet}
 use Rattle.journal_disk.specs.Disk.{Seen}
-use Rattle.site_core.specs.Stands.{StopAt, stopped_past}
-use Rattle.local_dbms.specs.declared.dbms.LocalDbms.{LocalDbms}
+use Rattle.held_disks.specs.Stops.{SiteStopsWithin}
 use Rattle.local_dbms.specs.Stands.{Stands}
 use Rattle.scripted_link.specs.Inlets.{inlet_ring, returned, taken}
 use Rattle.scripted_link.specs.Outlets.{HasMovedOn, offered, outlet_wire}
@@ -79,17 +78,16 @@ pub record IsUnfinished (plan : SitePlan) (back : Option Packet) (turns : List S
   pub borne : IsBorne plan.programs back took
   pub is : request_of plan (past_of plan turns) command took ≡ Submits event
 
--- what a failed disk call leaves: what a stop within one further event leaves, which a command of the host left unfinished
-pub record IsBroken {E : Type 0} (stands : E → Start → List EngineLine → Type 0) (tells : Bool) (dbms : LocalDbms E) (disk : Seen) (plan : SitePlan) (back : Option Packet) (turns : List SiteTurn) : Type 0 where
+-- what a failed disk call leaves: this holds of what a stop within one further event leaves, which a command of the host left unfinished
+pub record IsBroken (K : SitePast → Type 0) (plan : SitePlan) (back : Option Packet) (turns : List SiteTurn) : Type 0 where
   pub event : SiteEvent
   pub unfinished : IsUnfinished plan back turns event
-  pub at : StopAt
-  pub stood : Stands stands tells dbms disk plan.home plan.programs (stopped_past plan.home (past_of plan turns) event at)
+  pub stop : SiteStopsWithin K plan.home (past_of plan turns) event
 
--- until a disk call fails, the site stands for what the events of the lines made
-abbrev pub IsStanding : {E : Type 0} → (E → Start → List EngineLine → Type 0) → Bool → Bool → LocalDbms E → Seen → SitePlan → Option Packet → List SiteTurn → Type 0
-IsStanding stands tells false dbms disk plan back turns = Stands stands tells dbms disk plan.home plan.programs (past_of plan turns)
-IsStanding stands tells true dbms disk plan back turns = IsBroken stands tells dbms disk plan back turns
+-- until a disk call fails, this holds of what the events of the lines made
+abbrev pub IsStanding : (SitePast → Type 0) → Bool → SitePlan → Option Packet → List SiteTurn → Type 0
+IsStanding K false plan back turns = K (past_of plan turns)
+IsStanding K true plan back turns = IsBroken K plan back turns
 
 -- the disk's count stands where it stood until a disk call fails, and has risen then
 abbrev pub IsCounting : Bool → ℕ → ℕ → Type 0
@@ -104,7 +102,7 @@ pub record KeepsFor {E D : Type 0} (stands : E → Start → List EngineLine →
   pub kept : IsKept plan turns actor
   pub moved_on : HasMovedOn actor.ends.outlet
   pub heard : HasHeard plan.programs took (found (λ (turn : SiteTurn). turn.took) turns)
-  pub standing : IsStanding stands tells failed actor.dbms (seen actor.disk) plan (returned actor.ends.inlet) turns
+  pub standing : IsStanding (Stands stands tells actor.dbms (seen actor.disk) plan.home plan.programs) failed plan (returned actor.ends.inlet) turns
   pub faults : IsCounting failed plan.faults (seen actor.disk).faults
 
 -- where it has answered for all that it took

@@ -182,7 +182,7 @@ is_left tells scenario old new actors left c h = record {
     idle site disk least none at = record { empty = c.others.others site disk least none at; calm = counted old site.0 disk at }
 
 -- a run that comes to its end without its world ends badly
-pub ends_badly : (tells : Bool) (old new : List Seen) (scenario : Scenario) (why : RunErr) → StopsBadly tells (faults_of old) new scenario why → EndsBadly tells old new scenario why
+pub ends_badly : (tells : Bool) (old new : List Seen) (scenario : Scenario) (why : RunErr) → StopsBadly (faults_of old) new scenario why → EndsBadly tells old new scenario why
 ends_badly tells old new scenario Err_is.Memory stopped = tt
 ends_badly tells old new scenario (Err_is.Disk number lines) stopped = inr stopped
 
@@ -196,10 +196,10 @@ module _ (tells : Bool) (old disks new : List Seen) (scenario own : Scenario) (c
       (λ world f. f tells (faults_of disks) new l) ran))
 
   -- and what stops it ends badly
-  pub ends_badly_since : IfErr result (λ why. (tells : Bool) (counts : List ℕ) (disks : List Seen) → IsLeft tells counts disks own left → StopsBadly tells counts disks own why)
+  pub ends_badly_since : IfErr result (λ why. (tells : Bool) (counts : List ℕ) (disks : List Seen) → IsLeft tells counts disks own left → StopsBadly counts disks own why)
       → IfErr result (EndsBadly tells old new scenario)
   ends_badly_since stopped =
-      IfErr-weaker result (StopsBadly tells (faults_of old) new scenario) (EndsBadly tells old new scenario) (ends_badly tells old new scenario)
-      (subst (λ (n : List ℕ). IfErr result (StopsBadly tells n new scenario)) counts_are (subst (λ (z : Scenario). IfErr result (StopsBadly tells (faults_of disks) new z)) own_is
-      (IfErr-weaker result (λ why. (tells : Bool) (counts : List ℕ) (disks : List Seen) → IsLeft tells counts disks own left → StopsBadly tells counts disks own why) (StopsBadly tells (faults_of disks) new own)
+      IfErr-weaker result (StopsBadly (faults_of old) new scenario) (EndsBadly tells old new scenario) (ends_badly tells old new scenario)
+      (subst (λ (n : List ℕ). IfErr result (StopsBadly n new scenario)) counts_are (subst (λ (z : Scenario). IfErr result (StopsBadly (faults_of disks) new z)) own_is
+      (IfErr-weaker result (λ why. (tells : Bool) (counts : List ℕ) (disks : List Seen) → IsLeft tells counts disks own left → StopsBadly counts disks own why) (StopsBadly (faults_of disks) new own)
       (λ why f. f tells (faults_of disks) new l) stopped)))

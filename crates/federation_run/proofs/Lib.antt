@@ -14,6 +14,7 @@ mod Sorts
 mod Owned
 mod Logged
 mod Counted
+mod Held
 mod Ran
 mod SettledParts
 mod Settled

@@ -13,7 +13,7 @@ use Rattle.fed_rules.specs.Scenarios.{home_of, sites}
 use Rattle.fed_rules.specs.SiteRecords.{Home}
 use Rattle.journal_disk.specs.Disk.{Seen}
 use Rattle.any_engine.specs.Stands as Engines
-use Rattle.local_dbms.specs.Stands.{own_programs}
+use Rattle.local_dbms.specs.Stands as Dbms
 use Rattle.scripted_link.specs.Inlets.{inlet_ring, returned, taken}
 use Rattle.scripted_link.specs.Outlets.{offered, outlet_wire}
 use Rattle.scripted_link.specs.Rings.{Ring, Wire}
@@ -54,7 +54,7 @@ pub record IsOwnLog (tells : Bool) (counts : List ℕ) (disks : List Seen) (scen
   pub short : length log.turns ≤ most_lines
   pub few : (tx : Tx) → begun_in tx log.turns ≤ most_begun
   pub settled : length log.turns < most_lines → is_due log.plan log.turns ≡ false
-  pub standing : IsStanding Engines.Stands tells one.failed one.dbms disk log.plan (returned one.ends.inlet) log.turns
+  pub standing : IsStanding (Dbms.Stands Engines.Stands tells one.dbms disk log.plan.home log.plan.programs) one.failed log.plan (returned one.ends.inlet) log.turns
   pub faults : IsCounting one.failed log.plan.faults disk.faults
   pub to : option_map (λ (wire : Wire). wire.ring) (slice_get rings (2 * place)) ≡ Some (inlet_ring one.ends.inlet)
   pub from : slice_get rings (2 * place + 1) ≡ Some (outlet_wire one.ends.outlet)

@@ -27,6 +27,9 @@ use Rattle.journal_disk.specs.Disk.{Seen}
 use Rattle.any_engine.specs.declared.engine.AnyEngine.{AnyEngine}
 use Rattle.any_engine.specs.Stands as Engines
 use Rattle.conservative_take.specs.AnyPolicies.{policy_is}
+use Rattle.coord_core.specs.Found as Coord_found
+use Rattle.site_core.specs.Made.{was_found}
+use Rattle.held_disks.proofs.ForCallers.{coord_not_found, site_not_found}
 use Rattle.global_manager.specs.Stands as Manager
 use Rattle.local_dbms.specs.declared.dbms.LocalDbms.{LocalDbms}
 use Rattle.local_dbms.specs.Stands as Dbms
@@ -69,6 +72,7 @@ use Rattle.federation_run.specs.Plans.{coord_plan, count_at, site_plan, stops_in
 use Rattle.federation_run.specs.Running.{EndsCoord, EndsSite, HasBroken, HaveRun}
 use Rattle.federation_run.specs.Sorting.{AllFit, AreMarks, AreSorted, FailedAt, IsSent, NoneFailed}
 use Rattle.federation_run.proofs.Counted.{few_begun, few_lines}
+use Rattle.federation_run.proofs.Held.{coord_left, site_left}
 use Rattle.federation_run.proofs.Logged.{are_lists, are_logs, back_carried, backs_carried, coord_at, coord_held, coord_log, left_of, logs, logs_count, own, own_is, port_site, ports_count}
 use Rattle.federation_run.proofs.Owned.{IsOwnLog}
 use Rattle.federation_run.proofs.Unchecked.{marks_kept}
@@ -154,7 +158,20 @@ module _ (right : MergedLinesAreRight) (carries : MessagesAreCarried) (arms : St
       let one = left_of tells counts disks scenario whole left l placed fits place log at in
       (own tells counts disks scenario whole left l placed fits place one.0 log one.1 at).few
 
-  coordinator_ends : EndsCoord tells counts disks scenario sites_logs coordinator
+  -- no host went on from a found journal
+  coordinator_new : Coord_found.was_found (coord_past_of coordinator.plan coordinator.turns) ≡ false
+  coordinator_new = ap Coord_found.was_found (sym told.coordinator_is) ∙ coord_not_found scenario (commands_of (lines_in merged))
+
+  site_new : (place : ℕ) (site : SiteId) (log : SiteLog) → slice_get (sites scenario) place ≡ Some site → slice_get sites_logs place ≡ Some log → was_found (Turns.past_of log.plan log.turns) ≡ false
+  site_new place site log there at =
+      let f = own_is tells counts disks scenario whole left l placed fits place site log there at in
+      let named : f.2.home.site ≡ site = f.2.home_site_is ∙ f.3 in
+      let declared : home_of scenario f.2.home.site ≡ Some f.2.home = subst (λ (z : SiteId). home_of scenario z ≡ Some f.2.home) (sym f.2.home_site_is) f.2.home_is in
+      ap was_found (sym (told.each place site log there at).past)
+      ∙ subst (λ (z : SiteId). was_found (Told.past_of z (story_of scenario (commands_of (lines_in merged)))) ≡ false) named
+      (site_not_found scenario (commands_of (lines_in merged)) f.2.home declared)
+
+  coordinator_ends : EndsCoord counts disks scenario sites_logs coordinator
   coordinator_ends =
       let at = coord_at tells counts disks scenario whole left l placed fits in
       let held = coord_held tells counts disks scenario whole left l placed fits in
@@ -167,16 +184,15 @@ module _ (right : MergedLinesAreRight) (carries : MessagesAreCarried) (arms : St
           own = at.own;
           holds = record {
             failed = left.coordinator.failed;
-            manager = left.coordinator.manager;
             backs = backs_of left.coordinator.ports.items;
             carried = backs_carried tells counts disks scenario whole left l placed fits s.met;
-            standing = held.standing;
+            holds = coord_left tells left.coordinator.failed left.coordinator.manager at.disk coordinator.plan (backs_of left.coordinator.ports.items) coordinator.turns coordinator_new held.standing;
             faults = held.faults;
           };
         };
       }
 
-  sites_end : (place : ℕ) (site : SiteId) (log : SiteLog) → slice_get (sites scenario) place ≡ Some site → slice_get sites_logs place ≡ Some log → EndsSite tells counts disks scenario site coordinator log
+  sites_end : (place : ℕ) (site : SiteId) (log : SiteLog) → slice_get (sites scenario) place ≡ Some site → slice_get sites_logs place ≡ Some log → EndsSite counts disks scenario site coordinator log
   sites_end place site log there at =
       let f = own_is tells counts disks scenario whole left l placed fits place site log there at in
       let o = f.2 in
@@ -189,10 +205,9 @@ module _ (right : MergedLinesAreRight) (carries : MessagesAreCarried) (arms : St
           own = subst (λ (z : SiteId). slice_get disks z.0 ≡ Some o.disk) f.3 o.own;
           holds = record {
             failed = f.0.failed;
-            dbms = f.0.dbms;
             back = returned f.0.ends.inlet;
             carried = back_carried tells counts disks scenario whole left l placed fits s.met place site log there at f.0 f.1;
-            standing = o.standing;
+            holds = site_left tells f.0.failed f.0.dbms o.disk log.plan (returned f.0.ends.inlet) log.turns (site_new place site log there at) o.standing;
             faults = subst (λ (n : ℕ). IsCounting f.0.failed n o.disk.faults) (ap (λ (p : SitePlan). p.faults) o.plan_is ∙ ap (λ (z : SiteId). count_at counts z.0) f.3) o.faults;
           };
         };
@@ -201,7 +216,7 @@ module _ (right : MergedLinesAreRight) (carries : MessagesAreCarried) (arms : St
   others_empty : AreDisks disks scenario
   others_empty = record { nine = l.nine; others = λ site disk least none at. (l.others site disk least none at).empty }
 
-  pub have_run : HaveRun tells counts disks scenario coordinator sites_logs sorted.lists.items merged
+  pub have_run : HaveRun counts disks scenario coordinator sites_logs sorted.lists.items merged
   have_run = record {
     logged = logged;
     listed = listed;
@@ -322,7 +337,7 @@ module _ (right : MergedLinesAreRight) (carries : MessagesAreCarried) (arms : St
           programs_are = ap (λ (p : SitePlan). p.programs) o.plan_is ∙ ap (λ (z : SiteId). own_programs z scenario.transactions) f.3
 
           standing : Dbms.Stands Engines.Stands tells f.0.dbms o.disk log.plan.home log.plan.programs (Turns.past_of log.plan log.turns)
-          standing = subst (λ (b : Bool). IsStanding Engines.Stands tells b f.0.dbms o.disk log.plan (returned f.0.ends.inlet) log.turns) (none.sites_run place f.0 f.1) o.standing
+          standing = subst (λ (b : Bool). IsStanding (Dbms.Stands Engines.Stands tells f.0.dbms o.disk log.plan.home log.plan.programs) b log.plan (returned f.0.ends.inlet) log.turns) (none.sites_run place f.0 f.1) o.standing
 
           stands : Dbms.Stands Engines.Stands tells dbms o.disk o.home (own_programs site scenario.transactions) (Told.past_of site story)
           stands =
@@ -368,7 +383,8 @@ module _ (right : MergedLinesAreRight) (carries : MessagesAreCarried) (arms : St
             disk = c.disk;
             own = c.own;
             holds = subst (λ (past : CoordPast). Manager.Stands policy_is tells left.coordinator.manager c.disk (terms_of scenario) (global_program scenario) past) (sym told.coordinator_is)
-                (subst (λ (b : Bool). IsCoordStanding policy_is tells b left.coordinator.manager c.disk (coord_plan scenario counts) (backs_of left.coordinator.ports.items) coordinator.turns) none.coordinator_runs held.standing);
+                (subst (λ (b : Bool). IsCoordStanding (Manager.Stands policy_is tells left.coordinator.manager c.disk (terms_of scenario) (global_program scenario)) b (coord_plan scenario counts) (backs_of left.coordinator.ports.items) coordinator.turns)
+                none.coordinator_runs held.standing);
           }
 
       -- what the hosts left is that of a world
@@ -394,7 +410,7 @@ module _ (right : MergedLinesAreRight) (carries : MessagesAreCarried) (arms : St
 
   module _ (number : ℕ) (lines : List Line) (lines_are : lines ≡ lines_in merged) where
     -- the coordinator's
-    pub coordinator_broken : number ≡ 0 → left.coordinator.failed ≡ true → HasBroken tells counts disks scenario number lines
+    pub coordinator_broken : number ≡ 0 → left.coordinator.failed ≡ true → HasBroken counts disks scenario number lines
     coordinator_broken zero_is failed =
         let c = coord_at tells counts disks scenario whole left l placed fits in
         let held = coord_held tells counts disks scenario whole left l placed fits in
@@ -411,7 +427,7 @@ module _ (right : MergedLinesAreRight) (carries : MessagesAreCarried) (arms : St
         }
 
     -- that of a site
-    pub site_broken : FailedAt number left.coordinator left.sites.items → HasBroken tells counts disks scenario number lines
+    pub site_broken : FailedAt number left.coordinator left.sites.items → HasBroken counts disks scenario number lines
     site_broken b = record {
       coordinator = coordinator;
       logs = sites_logs;

@@ -77,10 +77,10 @@ module _ (right : MergedLinesAreRight) (carries : MessagesAreCarried) (arms : St
     }
 
   -- the first actor whose host failed
-  pub has_broken : (number : ℕ) → failed ≡ Some number → HasBroken tells counts disks scenario number lines
+  pub has_broken : (number : ℕ) → failed ≡ Some number → HasBroken counts disks scenario number lines
   has_broken number is = by_actor (first_is (Some number) is)
     where
-      by_actor : IsFirstFailed left.coordinator left.sites.items (Some number) → HasBroken tells counts disks scenario number lines
+      by_actor : IsFirstFailed left.coordinator left.sites.items (Some number) → HasBroken counts disks scenario number lines
       by_actor (inl first) =
           coordinator_broken right carries arms tells counts disks scenario whole left l survey.placed survey.fits sorted s m.merged m.traced number lines m.lines_are first.0 first.1
       by_actor (inr at) = site_broken right carries arms tells counts disks scenario whole left l survey.placed survey.fits sorted s m.merged m.traced number lines m.lines_are at

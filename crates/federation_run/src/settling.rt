@@ -95,7 +95,7 @@ fn gather_all(
 pub(crate) fn settle(alloc: Global, scenario: Scenario, left: Left) -> Result<World, RunErr>
     requires { (tells : Bool) × (counts : List ℕ) × (disks : List Seen) × IsLeft tells counts disks scenario left }
     ensures ran { IfOk result (λ world. (tells : Bool) (counts : List ℕ) (disks : List Seen) → IsLeft tells counts disks scenario left → HasRun tells counts disks scenario world) }
-    ensures stopped { IfErr result (λ why. (tells : Bool) (counts : List ℕ) (disks : List Seen) → IsLeft tells counts disks scenario left → StopsBadly tells counts disks scenario why) }
+    ensures stopped { IfErr result (λ why. (tells : Bool) (counts : List ℕ) (disks : List Seen) → IsLeft tells counts disks scenario left → StopsBadly counts disks scenario why) }
 {
     laws_hold();
     let Ok(failed) = survey(alloc, &scenario, &left) else {

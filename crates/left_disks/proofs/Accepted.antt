@@ -31,7 +31,7 @@ use Rattle.found_disks.specs.declared.reading.Journals.{Journals}
 use Rattle.found_disks.specs.Finding.{NamesOf}
 use Rattle.found_disks.specs.Reading.{AreRead, AreReadFrom, HasBytes, IsDamagedAt, IsFirstDamaged, IsReadFirst, images_of}
 use Rattle.found_disks.proofs.ForCallers.{members_are}
-use Rattle.left_disks.specs.Holding.{HoldsAt}
+use Rattle.held_disks.specs.Holding.{HoldsAt}
 use Rattle.left_disks.specs.Left.{IsLeft}
 use Rattle.left_disks.proofs.LeftJournals.{Declared, SiteRead, Undeclared, coordinator_is, holds, left_is_found, site_read}
 use Rattle.left_disks.proofs.OneDisk.{none_damaged, undamaged}

@@ -40,7 +40,7 @@ use Rattle.journal_disk.specs.Disk.{Image, Seen}
 use Rattle.coord_journal.specs.Spelling as Coordinators
 use Rattle.site_journal.specs.Spelling as Sites
 use Rattle.left_disks.specs.Ended.{IsEnded, IsHalt, IsLeftByHalts}
-use Rattle.left_disks.specs.Holding.{HoldAll, HoldsAt, SiteHolds}
+use Rattle.held_disks.specs.Holding.{HoldAll, HoldsAt, SiteHolds}
 use Rattle.left_disks.proofs.Halts.{CoordHalted, SiteHalted, alike_holds, coord_halted, site_halted}
 use Rattle.left_disks.proofs.LeftJournals.{few_sites}
 use Rattle.left_disks.proofs.Trims.{fine_disk}

@@ -22,7 +22,7 @@ use Rattle.journal_disk.specs.Disk.{Image}
 use Rattle.frame_journal.specs.Records.{AreRecordsOf}
 use Rattle.journal_rules.specs.Stands.{record_frame}
 use Rattle.journal_rules.specs.Torn.{IsRestOf, IsTornBy}
-use Rattle.left_disks.specs.Holding.{HoldsRecords}
+use Rattle.held_disks.specs.Holding.{HoldsRecords}
 
 -- ---- the disk
 

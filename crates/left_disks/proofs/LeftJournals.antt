@@ -36,7 +36,7 @@ use Rattle.site_journal.specs.Spelling as Sites
 use Rattle.found_disks.specs.declared.reading.Journals.{Journals}
 use Rattle.found_disks.specs.Finding.{found_in, journal_on, unless_empty}
 use Rattle.found_disks.specs.Reading.{AreRead, AreReadFrom, IsReadAt, IsReadFirst, images_of}
-use Rattle.left_disks.specs.Holding.{Holds, HoldsAt}
+use Rattle.held_disks.specs.Holding.{Holds, HoldsAt}
 use Rattle.left_disks.specs.Left.{IsLeft}
 use Rattle.left_disks.proofs.FoundSites.{AreFoundFrom, IsFoundAt, sites_are}
 use Rattle.left_disks.proofs.OneDisk.{IsTrimmedWell, journal_is, none_read}

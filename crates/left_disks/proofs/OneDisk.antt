@@ -15,7 +15,7 @@ use Rattle.journal_rules.specs.Stands.{CountsFrames}
 use Rattle.journal_rules.proofs.ForCallers.{all_reverse, sizes_agree, written_frames, written_values}
 use Rattle.found_disks.specs.Finding.{journal_on, torn_behind}
 use Rattle.found_disks.specs.Reading.{IsDamagedAt, IsReadFrom}
-use Rattle.left_disks.specs.Holding.{HoldsRecords}
+use Rattle.held_disks.specs.Holding.{HoldsRecords}
 
 -- what was trimmed ends where a frame ends: behind it stand the bytes of the records that stand
 abbrev pub IsTrimmedWell : {R : Type 0} → (R → ℕ) → Disk R → Type 0

@@ -22,7 +22,7 @@ use Rattle.site_journal.specs.Exact as site_exact
 use Rattle.site_journal.specs.Frames as site_frames
 use Rattle.site_journal.specs.Spelling as Sites
 use Rattle.found_disks.specs.Reading.{AreReadFrom, IsReadAt, IsReadFirst, images_of}
-use Rattle.left_disks.specs.Holding.{HoldsAt}
+use Rattle.held_disks.specs.Holding.{HoldsAt}
 use Rattle.left_disks.specs.Left.{AreReadable, IsLeft}
 use Rattle.left_disks.proofs.LeftJournals.{holds}
 use Rattle.left_disks.proofs.OneDisk.{all_those, none_there, whole_there}

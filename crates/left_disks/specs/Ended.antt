@@ -15,7 +15,7 @@ use Rattle.found_disks.specs.declared.errors.ReopenErr.{ReopenErr}
 use Rattle.found_disks.specs.declared.reading.Journals.{Journals}
 use Rattle.found_disks.specs.Finding.{FindsAs}
 use Rattle.found_disks.specs.Reading.{images_of}
-use Rattle.left_disks.specs.Holding.{HoldAll}
+use Rattle.held_disks.specs.Holding.{HoldAll}
 use Rattle.left_disks.specs.Left.{FindsWhatWasLeft, IsLeft}
 
 abbrev pub IsHalt : Command → Type 0

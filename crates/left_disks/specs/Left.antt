@@ -17,7 +17,7 @@ use Rattle.found_disks.specs.declared.errors.ReopenErr.TheVariants as Err_is
 use Rattle.found_disks.specs.declared.reading.Journals.{Journals}
 use Rattle.found_disks.specs.Finding.{FindsAs, NamesOf, found_in}
 use Rattle.found_disks.specs.Reading.{AreRead, AreReadFrom, IsReadFirst, images_of}
-use Rattle.left_disks.specs.Holding.{HoldAll}
+use Rattle.held_disks.specs.Holding.{HoldAll}
 
 -- a session that began with empty disks left these: it has few lines, all its actors are down, and each disk holds what the rules say
 pub record IsLeft (disks : List Seen) (scenario : Scenario) (commands : List Command) : Type 0 where

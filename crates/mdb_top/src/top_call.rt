@@ -90,7 +90,7 @@ fn ran<R: Threads + Wait + Sync, K: Sink, D: Disk + Send, G: Gate + Sync>(
 ) -> u8
     requires told { IsTrue D.tells }
     requires nine { length disks.old.items ≡ 9 }
-    ensures carries { Carries (running D.seen D.tells) result (stream K.tells (K.written sink.old) (K.written sink.new) (K.faults sink.old) (K.faults sink.new))
+    ensures carries { Carries (running D.seen) result (stream K.tells (K.written sink.old) (K.written sink.new) (K.faults sink.old) (K.faults sink.new))
         (map D.seen disks.old.items) (map D.seen disks.new.items) scenario }
     ensures nine { length disks.new.items ≡ 9 }
     ensures untouched { result ≡ 8 → disks.new ≡ disks.old }
@@ -115,7 +115,7 @@ fn run<R: Threads + Wait + Sync, S: Source, K: Sink, D: Disk + Send, G: Gate + S
 ) -> u8
     requires told { IsTrue D.tells }
     requires nine { length disks.old.items ≡ 9 }
-    ensures ends { SomeInput S.tells (S.left source.old) (Ends scenario_of (running D.seen D.tells) result
+    ensures ends { SomeInput S.tells (S.left source.old) (Ends scenario_of (running D.seen) result
         (stream S.tells (S.left source.old) (S.left source.new) (S.faults source.old) (S.faults source.new))
         (stream K.tells (K.written sink.old) (K.written sink.new) (K.faults sink.old) (K.faults sink.new))
         (map D.seen disks.old.items) (map D.seen disks.new.items)) }
@@ -143,7 +143,7 @@ fn made<R: Threads + Wait + Sync, K: Sink, D: Disk + Send, G: Gate + Sync>(
     requires told { IsTrue D.tells }
     requires makeable { IsMakeable making }
     requires nine { length disks.old.items ≡ 9 }
-    ensures carries { Carries (makes.making D.seen D.tells) result (stream K.tells (K.written sink.old) (K.written sink.new) (K.faults sink.old) (K.faults sink.new))
+    ensures carries { Carries (makes.making D.seen) result (stream K.tells (K.written sink.old) (K.written sink.new) (K.faults sink.old) (K.faults sink.new))
         (map D.seen disks.old.items) (map D.seen disks.new.items) making }
     ensures status { In result (0 ∷ 4 ∷ 5 ∷ 6 ∷ 8 ∷ []) }
     ensures nine { length disks.new.items ≡ 9 }
@@ -193,13 +193,13 @@ pub fn federate<R: Threads + Wait + Sync, S: Source, K: Sink, D: Disk + Send, G:
         (map D.seen disks.old.items) (map D.seen disks.new.items)) }
 
     // A run in threads: likewise, of a scenario without commands.
-    ensures runs { asked_by (map string_bytes words.now) ≡ Some asks.Run → SomeInput S.tells (S.left source.old) (Ends scenario_of (running D.seen D.tells) result
+    ensures runs { asked_by (map string_bytes words.now) ≡ Some asks.Run → SomeInput S.tells (S.left source.old) (Ends scenario_of (running D.seen) result
         (stream S.tells (S.left source.old) (S.left source.new) (S.faults source.old) (S.faults source.new))
         (stream K.tells (K.written sink.old) (K.written sink.new) (K.faults sink.old) (K.faults sink.new))
         (map D.seen disks.old.items) (map D.seen disks.new.items)) }
 
     // A made scenario: of what the words say and of no input; nothing is read.
-    ensures makes { (asked : TheMaking) → asked_by (map string_bytes words.now) ≡ Some (asks.Make asked) → Carries (makes.making D.seen D.tells) result
+    ensures makes { (asked : TheMaking) → asked_by (map string_bytes words.now) ≡ Some (asks.Make asked) → Carries (makes.making D.seen) result
         (stream K.tells (K.written sink.old) (K.written sink.new) (K.faults sink.old) (K.faults sink.new))
         (map D.seen disks.old.items) (map D.seen disks.new.items) asked }
     ensures unread_made { (asked : TheMaking) → asked_by (map string_bytes words.now) ≡ Some (asks.Make asked) → source.new ≡ source.old }

@@ -62,7 +62,7 @@ finishing_heard adding scenario commands heard =
     (each_map (λ command. is_of_clients command ≡ true) (IsHeard scenario.sites) (clients_heard scenario.sites) adds.front adds.each) heard)
 
 -- each command of a run is heard
-module _ (closing : ClosingIsHeard) (finishing : FinishingAddsItsOwn) (tells : Bool) (counts : List ℕ) (scenario : Scenario) (merged : List Stamped) (hosts : AreOfHosts tells counts scenario merged) where
+module _ (closing : ClosingIsHeard) (finishing : FinishingAddsItsOwn) (counts : List ℕ) (scenario : Scenario) (merged : List Stamped) (hosts : AreOfHosts counts scenario merged) where
   pub closing_heard : Each (IsHeard scenario.sites) (closed scenario (host_commands merged))
   closing_heard =
       closing scenario hosts.run.logged.whole (host_commands merged) (hosts_heard scenario hosts.coordinator hosts.logs hosts.lists merged hosts.run.logged hosts.run.listed hosts.run.traced)
@@ -71,11 +71,11 @@ module _ (closing : ClosingIsHeard) (finishing : FinishingAddsItsOwn) (tells : B
   run_heard = finishing_heard finishing scenario (closed scenario (host_commands merged)) closing_heard
 
 -- the lines of a run's hosts
-pub of_hosts : (tells : Bool) (counts : List ℕ) (disks : List Seen) (scenario : Scenario) (world : World) → (r : HasRun tells counts disks scenario world) → AreOfHosts tells counts scenario r.merged
+pub of_hosts : (tells : Bool) (counts : List ℕ) (disks : List Seen) (scenario : Scenario) (world : World) → (r : HasRun tells counts disks scenario world) → AreOfHosts counts scenario r.merged
 of_hosts tells counts disks scenario world r = record { disks = disks; coordinator = r.coordinator; logs = r.logs; lists = r.lists; run = r.run }
 
 module _ (closing : ClosingAddsItsOwn) (rests : ClosedSessionsRest) (finish : FinishedSessionsCommit) (tells : Bool) (old new : List Seen) (scenario : Scenario) (world : World) (merged : List Stamped)
-    (hosts : AreOfHosts tells (faults_of old) scenario merged) (stands : Stands tells world new scenario (run_commands scenario (host_commands merged)))
+    (hosts : AreOfHosts (faults_of old) scenario merged) (stands : Stands tells world new scenario (run_commands scenario (host_commands merged)))
   where
     abbrev commands : List Command
     commands = host_commands merged

@@ -24,7 +24,9 @@ use Rattle.fed_rules.specs.CoordPast.{CoordPast}
 use Rattle.fed_rules.specs.CoordPast as Coordinator
 use Rattle.global_manager.specs.declared.manager.GlobalManager.{GlobalManager}
 use Rattle.conservative_take.specs.declared.any_policy.AnyPolicy.{AnyPolicy}
+use Rattle.conservative_take.specs.AnyPolicies.{policy_is}
 use Rattle.any_engine.specs.declared.engine.AnyEngine.{AnyEngine}
+use Rattle.any_engine.specs.Stands as Engines
 use Rattle.local_dbms.specs.declared.dbms.LocalDbms.{LocalDbms}
 use Rattle.local_dbms.specs.Stands as Dbms
 use Rattle.local_dbms.specs.Stands.{own_programs}
@@ -40,27 +42,25 @@ use Rattle.closing.specs.Between.{WereCalm}
 use Rattle.closing.specs.FreshTowards.{BreaksAt}
 use Rattle.closing.proofs.ForCallers.{calm_since}
 use Rattle.session_outputs.specs.Breaks.{BreaksAtNext, BreaksSetUp}
-use Rattle.left_disks.specs.Holding.{CoordHolds, HoldAll, HoldOthers, HoldsAt, SiteHolds}
+use Rattle.held_disks.specs.Holding.{CoordHolds, HoldAll, HoldOthers, HoldsAt, SiteHolds}
+use Rattle.held_disks.proofs.ForCallers.{before_not_found, coord_holds, coord_not_found, site_holds, site_not_found, stopped_not_found, within_not_found}
 use Rattle.session_outputs.specs.Disks.{AreSetUp, HoldFrames, NothingBut, frames_at, site_frames}
 use Rattle.session_outputs.specs.Outcomes.{StartsShort}
-use Rattle.session_outputs.proofs.NotFound.{before_not_found, coord_not_found, site_not_found, stopped_not_found, within_not_found}
 use Rattle.outputs.proofs.ForCallers.{AreSized, all_sized, coord_stops, numbered, one_at, site_held, site_stops, there_at}
-use Rattle.session_outputs.proofs.Stores.{coord_bytes, coord_whole, site_bytes, site_whole}
+use Rattle.session_outputs.proofs.Stores.{coord_whole, site_whole}
 
 -- ---- each disk holds what the rules say
 
 -- that of an actor that stands for its past
-coord_holds : (tells : Bool) (disks : List Seen) (manager : GlobalManager AnyPolicy) (scenario : Scenario) (past : CoordPast) (seen : Seen)
+manager_holds : (tells : Bool) (disks : List Seen) (manager : GlobalManager AnyPolicy) (scenario : Scenario) (past : CoordPast) (seen : Seen)
     → Coord_found.was_found past ≡ false → ManagerStands tells disks manager (terms_of scenario) (global_program scenario) past → slice_get disks 0 ≡ Some seen → CoordHolds seen.image past
-coord_holds tells disks manager scenario past seen new m at =
-    subst (λ (s : Seen). CoordHolds s.image past) (one_at disks 0 m.disk seen m.own at)
-    (coord_bytes tells m.disk (stored manager.core.store) (Coordinator.disk past) _ (all_written new m.holds.core.stored))
+manager_holds tells disks manager scenario past seen new m at =
+    subst (λ (s : Seen). CoordHolds s.image past) (one_at disks 0 m.disk seen m.own at) (coord_holds policy_is tells manager.core m.disk (terms_of scenario) past new m.holds.core)
 
-site_holds : (tells : Bool) (disks : List Seen) (dbms : LocalDbms AnyEngine) (scenario : Scenario) (home : Home) (past : SitePast) (seen : Seen)
+dbms_holds : (tells : Bool) (disks : List Seen) (dbms : LocalDbms AnyEngine) (scenario : Scenario) (home : Home) (past : SitePast) (seen : Seen)
     → was_found past ≡ false → DbmsStands tells disks dbms home (own_programs home.site scenario.transactions) past → slice_get disks home.site.0 ≡ Some seen → SiteHolds seen.image home past
-site_holds tells disks dbms scenario home past seen new d at =
-    subst (λ (s : Seen). SiteHolds s.image home past) (one_at disks home.site.0 d.disk seen d.own at)
-    (site_bytes tells d.disk (stored dbms.core.store) (disk home past) _ (all_written new d.holds.core.stored))
+dbms_holds tells disks dbms scenario home past seen new d at =
+    subst (λ (s : Seen). SiteHolds s.image home past) (one_at disks home.site.0 d.disk seen d.own at) (site_holds Engines.Stands tells dbms.core d.disk home past new d.holds.core)
 
 -- a disk of no size has no byte
 no_byte : (disks : List Seen) (place : ℕ) (seen : Seen) → AreSized disks → slice_get disks place ≡ Some seen → seen.size ≡ 0 → seen.image.bytes ≡ []
@@ -69,7 +69,7 @@ no_byte disks place seen sized at none = nothing_left seen.image.bytes (sized pl
 pub stands_hold_all : (tells : Bool) (world : World) (disks : List Seen) (scenario : Scenario) (commands : List Command) → AreSized disks → Stands tells world disks scenario commands
     → HoldAll disks scenario (story_of scenario commands)
 stands_hold_all tells world disks scenario commands sized s zero seen at =
-    coord_holds tells disks world.cores.coordinator scenario (coord_past (story_of scenario commands)) seen (coord_not_found scenario commands) s.stand.actors.coordinator at
+    manager_holds tells disks world.cores.coordinator scenario (coord_past (story_of scenario commands)) seen (coord_not_found scenario commands) s.stand.actors.coordinator at
 stands_hold_all tells world disks scenario commands sized s (suc n) seen at = by_home (home_of scenario (record { 0 = suc n })) refl
   where
     by_home : (o : Option Home) → home_of scenario (record { 0 = suc n }) ≡ o → HoldsAt seen.image o (story_of scenario commands)
@@ -77,7 +77,7 @@ stands_hold_all tells world disks scenario commands sized s (suc n) seen at = by
     by_home (Some home) e =
         let held = site_held (DbmsStands tells disks) world.cores.sites.items.items world.cores.marks.items world.traffic.items (fresh scenario) (story_of scenario commands) home
         (home-again scenario (record { 0 = suc n }) home e) s.stand.actors.sites in
-        site_holds tells disks held.dbms scenario home (past_of home.site (story_of scenario commands)) seen (site_not_found scenario commands home (home-again scenario (record { 0 = suc n }) home e)) held.holds
+        dbms_holds tells disks held.dbms scenario home (past_of home.site (story_of scenario commands)) seen (site_not_found scenario commands home (home-again scenario (record { 0 = suc n }) home e)) held.holds
         (subst (λ k. slice_get disks k ≡ Some seen) (sym (numbered scenario (suc n) home e)) at)
 
 -- at rest each holds the frames of its actor's records alone
@@ -143,7 +143,7 @@ coord_breaks see tells world old disks command scenario commands sized are w b =
         by_home (Some home) e =
             let held = site_held (DbmsStands tells disks) world.cores.sites.items.items world.cores.marks.items world.traffic.items (fresh scenario) story home
             (home-again scenario (record { 0 = suc n }) home e) b.sites in
-            site_holds tells disks held.dbms scenario home (past_of home.site story) seen (site_not_found scenario commands home (home-again scenario (record { 0 = suc n }) home e)) held.holds
+            dbms_holds tells disks held.dbms scenario home (past_of home.site story) seen (site_not_found scenario commands home (home-again scenario (record { 0 = suc n }) home e)) held.holds
             (subst (λ k. slice_get disks k ≡ Some seen) (sym (numbered scenario (suc n) home e)) at)
 
     by_disk : (seen : Seen) × (slice_get disks 0 ≡ Some seen) → BreaksAtNext see 0 old disks command scenario story
@@ -155,8 +155,8 @@ coord_breaks see tells world old disks command scenario commands sized are w b =
       disk = seen;
       own = at;
       stop = coord_stops (ManagerStands tells disks world.cores.coordinator) (CoordHolds seen.image) scenario story command b.asked
-          (λ cut m. coord_holds tells disks world.cores.coordinator scenario _ seen (before_not_found (terms_of scenario) (coord_past story) cut new) m at)
-          (λ event calls cut m. coord_holds tells disks world.cores.coordinator scenario _ seen (within_not_found (terms_of scenario) (coord_past story) event calls cut new) m at)
+          (λ cut m. manager_holds tells disks world.cores.coordinator scenario _ seen (before_not_found (terms_of scenario) (coord_past story) cut new) m at)
+          (λ event calls cut m. manager_holds tells disks world.cores.coordinator scenario _ seen (within_not_found (terms_of scenario) (coord_past story) event calls cut new) m at)
           b.happens b.coordinator;
       others = others;
     }
@@ -171,7 +171,7 @@ site_breaks see n tells world old disks command scenario commands sized are w b 
     story = story_of scenario commands
 
     others : HoldOthers (suc n) disks scenario story
-    others zero seen at apart = coord_holds tells disks world.cores.coordinator scenario (coord_past story) seen (coord_not_found scenario commands) b.coordinator at
+    others zero seen at apart = manager_holds tells disks world.cores.coordinator scenario (coord_past story) seen (coord_not_found scenario commands) b.coordinator at
     others (suc k) seen at apart = by_home (home_of scenario (record { 0 = suc k })) refl
       where
         by_home : (o : Option Home) → home_of scenario (record { 0 = suc k }) ≡ o → HoldsAt seen.image o story
@@ -180,7 +180,7 @@ site_breaks see n tells world old disks command scenario commands sized are w b 
             let held = site_held (StandsBut (suc n) tells disks) world.cores.sites.items.items world.cores.marks.items world.traffic.items (fresh scenario) story home
             (home-again scenario (record { 0 = suc k }) home e) b.sites in
             let own : home.site.0 ≡ suc k = numbered scenario (suc k) home e in
-            site_holds tells disks held.dbms scenario home (past_of home.site story) seen (site_not_found scenario commands home (home-again scenario (record { 0 = suc k }) home e)) (held.holds (λ same. apart (sym own ∙ same)))
+            dbms_holds tells disks held.dbms scenario home (past_of home.site story) seen (site_not_found scenario commands home (home-again scenario (record { 0 = suc k }) home e)) (held.holds (λ same. apart (sym own ∙ same)))
             (subst (λ m. slice_get disks m ≡ Some seen) (sym own) at)
 
     by_asked : (asked : Request SiteEvent) → happens scenario story command ≡ requested b.home story asked
@@ -196,7 +196,7 @@ site_breaks see n tells world old disks command scenario commands sized are w b 
           disk = d.disk;
           own = subst (λ k. slice_get disks k ≡ Some d.disk) (sym b.number_is) d.own;
           stop = site_stops (DbmsStands tells disks b.dbms) (SiteHolds d.disk.image) scenario story b.home (own_programs b.home.site scenario.transactions) command (Submits event) (suc n)
-              (λ event at d'. site_holds tells disks b.dbms scenario b.home _ d.disk (stopped_not_found b.home (past_of b.home.site story) event at (site_not_found scenario commands b.home b.declared)) d' d.own)
+              (λ event at d'. dbms_holds tells disks b.dbms scenario b.home _ d.disk (stopped_not_found b.home (past_of b.home.site story) event at (site_not_found scenario commands b.home b.declared)) d' d.own)
               b.number_is b.declared e f;
           others = others;
         }
@@ -219,7 +219,7 @@ set_up_hold tells disks scenario done each site seen i at =
     let same : s.home.site ≡ site = its-site scenario site s.home s.declared in
     let stood : DbmsStands tells disks s.dbms s.home (own_programs s.home.site scenario.transactions) [] = subst (λ (x : SiteId). DbmsStands tells disks s.dbms s.home (own_programs x scenario.transactions) []) (sym same) s.stood in
     subst (λ (o : Option Home). HoldsAt seen.image o []) (sym s.declared)
-    (site_holds tells disks s.dbms scenario s.home [] seen refl stood (subst (λ (x : SiteId). slice_get disks x.0 ≡ Some seen) (sym same) at))
+    (dbms_holds tells disks s.dbms scenario s.home [] seen refl stood (subst (λ (x : SiteId). slice_get disks x.0 ≡ Some seen) (sym same) at))
 
 empty_nothing : (disks : List Seen) (done : List SiteId) → AreSized disks → EmptyBut done disks → NothingBut done disks
 empty_nothing disks done sized empty number seen at apart = no_byte disks number seen sized at (empty number seen at apart)

@@ -2,7 +2,6 @@ pub mod ForCallers
 mod Again
 mod Ending
 mod Holding
-mod NotFound
 mod HostsHeard
 mod MakeLemmas
 mod OutputLemmas

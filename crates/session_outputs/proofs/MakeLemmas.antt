@@ -36,7 +36,7 @@ use Rattle.session_outputs.proofs.RunLemmas.{Stops, before, off_breaks, stopped_
 -- a run that came to its end: what is put is the summary of its journals, which is told by how many sites and transactions there are
 pub made_output : {D : Type 0} (see : D → Seen) (tells : Bool) (old new : List Seen) (asked : Making) → OfStories Headline → CommitsAreSettledAtRest → MadeLinesAreFixed → EndsAreUnchecked → IsMakeable asked
     → IsTrue tells → AreSized new → (world : World) → IsEnded tells old new (made_scenario asked) world → (r : Result Output Memory)
-    → IfWhole r (λ bytes. EachStory (Recalls world) (λ scenario commands. Rests scenario commands → bytes ≡ summary_text scenario (story_of scenario commands))) → IsOutput (making see tells) r old new asked
+    → IfWhole r (λ bytes. EachStory (Recalls world) (λ scenario commands. Rests scenario commands → bytes ≡ summary_text scenario (story_of scenario commands))) → IsOutput (making see) r old new asked
 made_output see tells old new asked headlines everywhere fixed ends can told sized world e (Ok (Whole bytes)) p =
     let scenario : Scenario = made_scenario asked in
     let commands = run_commands scenario (host_commands e.merged) in
@@ -60,22 +60,22 @@ made_output see tells old new asked headlines everywhere fixed ends can told siz
 
 -- one that a failed disk ended
 module _ {D : Type 0} (see : D → Seen) (tells : Bool) (old new : List Seen) (asked : Making) (sized : AreSized new) (number : ℕ) where
-  named : (done : List Command) (lines : List Line) → AreLines lines (made_scenario asked) done → Breaks see tells number old new (made_scenario asked) lines done → (r : Result Output Memory)
-      → IfBroken r (λ bytes. bytes ≡ lines_bytes [] ++ disk_failed_text number) → IsOutput (making see tells) r old new asked
+  named : (done : List Command) (lines : List Line) → AreLines lines (made_scenario asked) done → Breaks see number old new (made_scenario asked) lines done → (r : Result Output Memory)
+      → IfBroken r (λ bytes. bytes ≡ lines_bytes [] ++ disk_failed_text number) → IsOutput (making see) r old new asked
   named done lines are breaks (Ok (Whole bytes)) p = absurd p
   named done lines are breaks (Ok (Broken bytes)) p = record { number = number; done = done; lines = lines; lines_are = are; output_is = p; breaks = breaks }
   named done lines are breaks (Err why) p = tt
 
   -- while the sites were set up, or the hosts ran
   pub made_stopped : (lines : List Line) → Stops tells old new (made_scenario asked) number lines → (r : Result Output Memory)
-      → IfBroken r (λ bytes. bytes ≡ lines_bytes [] ++ disk_failed_text number) → IsOutput (making see tells) r old new asked
+      → IfBroken r (λ bytes. bytes ≡ lines_bytes [] ++ disk_failed_text number) → IsOutput (making see) r old new asked
   made_stopped lines stops r =
       let scenario = made_scenario asked in
       named (commands_of lines) lines (stopped_lines tells old new scenario number lines stops) (stopped_breaks see tells old new scenario sized number lines stops) r
 
   -- behind the hosts
   pub made_broken : ((one : D) → length (see one).image.bytes ≡ (see one).size) → (world : World) → BreaksOff see tells number old new (made_scenario asked) world → (r : Result Output Memory)
-      → IfBroken r (λ bytes. bytes ≡ lines_bytes [] ++ disk_failed_text number) → IsOutput (making see tells) r old new asked
+      → IfBroken r (λ bytes. bytes ≡ lines_bytes [] ++ disk_failed_text number) → IsOutput (making see) r old new asked
   made_broken told world b r =
       let scenario = made_scenario asked in
       let lines = world.lines.items in

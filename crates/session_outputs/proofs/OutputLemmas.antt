@@ -11,7 +11,7 @@ use Rattle.fed_world.specs.Faults.{faults_of}
 use Rattle.fed_rules.specs.Right.{AreLines}
 use Rattle.scenario_text.specs.declared.session.Session.{Session}
 use Rattle.line_text.specs.Spelling.{lines_bytes}
-use Rattle.left_disks.specs.Holding.{HoldAll}
+use Rattle.held_disks.specs.Holding.{HoldAll}
 use Rattle.outputs.specs.declared.output.Output.{Output}
 use Rattle.outputs.specs.declared.output.Output.TheVariants.{Whole, Broken}
 use Rattle.session_outputs.specs.Disks.{HoldFrames}

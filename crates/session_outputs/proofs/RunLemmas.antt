@@ -43,13 +43,13 @@ use Rattle.session_outputs.proofs.Unrefused.{unrefused}
 
 module _ (tells : Bool) (old new : List Seen) (scenario : Scenario) where
   pub ended_printable : ClosingIsHeard → FinishingAddsItsOwn → (world : World) → (e : IsEnded tells old new scenario world) → IsPrintable scenario (run_commands scenario (host_commands e.merged))
-  ended_printable closing finishing world e = record { whole = e.hosts.run.logged.whole; heard = run_heard closing finishing tells (faults_of old) scenario e.merged e.hosts; rests = e.finished.rest }
+  ended_printable closing finishing world e = record { whole = e.hosts.run.logged.whole; heard = run_heard closing finishing (faults_of old) scenario e.merged e.hosts; rests = e.finished.rest }
 
   -- a disk failed while the sites were set up, or the hosts ran: the lines are right
   abbrev pub Stops : ℕ → List Line → Type 0
-  Stops number lines = HasNotBegun tells old new scenario number lines ⊎ HasBroken tells (faults_of old) new scenario number lines
+  Stops number lines = HasNotBegun tells old new scenario number lines ⊎ HasBroken (faults_of old) new scenario number lines
 
-  own_lines : (number : ℕ) (lines : List Line) → (b : HasBroken tells (faults_of old) new scenario number lines) → AreLines lines scenario (commands_of lines)
+  own_lines : (number : ℕ) (lines : List Line) → (b : HasBroken (faults_of old) new scenario number lines) → AreLines lines scenario (commands_of lines)
   own_lines number lines b = record { commands_are = refl; right = subst (λ (ls : List Line). IsRightStory scenario (reverse ls)) (sym b.lines_are) b.run.told.right }
 
   pub stopped_lines : (number : ℕ) (lines : List Line) → Stops number lines → AreLines lines scenario (commands_of lines)
@@ -68,7 +68,7 @@ module _ {D : Type 0} (see : D → Seen) (tells : Bool) (old new : List Seen) (s
   -- of one that came to its end
   pub ended_output : OfStories Headline → CommitsAreSettledAtRest → ConservativeLinesRefuseNone → ClosingAddsNothing → CommandsGiveAgain → IsTrue tells → AreSized new
       → (world : World) → (e : IsEnded tells old new scenario world) → (r : Result Output Memory)
-      → IfWhole r (λ bytes. IsPrinted bytes scenario (run_commands scenario (host_commands e.merged))) → IsOutput (running see tells) r old new scenario
+      → IfWhole r (λ bytes. IsPrinted bytes scenario (run_commands scenario (host_commands e.merged))) → IsOutput (running see) r old new scenario
   ended_output headlines everywhere unrefusing closing again told sized world e (Ok (Whole bytes)) p =
       let commands = run_commands scenario (host_commands e.merged) in
       let right = story_right headlines everywhere scenario e.hosts.run.logged.whole commands e.finished.rest in
@@ -92,15 +92,15 @@ module _ {D : Type 0} (see : D → Seen) (tells : Bool) (old new : List Seen) (s
 
   -- of one that a failed disk ended
   pub failed_output : ConservativeLinesRefuseNone → IsScenario scenario → (number : ℕ) (done : List Command) (lines : List Line) → AreLines lines scenario done
-      → Breaks see tells number old new scenario lines done → (r : Result Output Memory)
-      → IfBroken r (λ bytes. bytes ≡ lines_bytes lines ++ disk_failed_text number) → IsOutput (running see tells) r old new scenario
+      → Breaks see number old new scenario lines done → (r : Result Output Memory)
+      → IfBroken r (λ bytes. bytes ≡ lines_bytes lines ++ disk_failed_text number) → IsOutput (running see) r old new scenario
   failed_output unrefusing whole number done lines are breaks (Ok (Whole bytes)) p = absurd p
   failed_output unrefusing whole number done lines are breaks (Ok (Broken bytes)) p =
       record { number = number; done = done; lines = lines; lines_are = are; unrefused = unrefused unrefusing scenario whole done lines are; output_is = p; breaks = breaks }
   failed_output unrefusing whole number done lines are breaks (Err why) p = tt
 
   -- while the sites were set up, or the hosts ran
-  pub stopped_breaks : AreSized new → (number : ℕ) (lines : List Line) → Stops tells old new scenario number lines → Breaks see tells number old new scenario lines (commands_of lines)
+  pub stopped_breaks : AreSized new → (number : ℕ) (lines : List Line) → Stops tells old new scenario number lines → Breaks see number old new scenario lines (commands_of lines)
   stopped_breaks sized number lines (inl s) = inr (inl (ap commands_of s.none, starts_broken number tells old new scenario sized s.rose s.stopped))
   stopped_breaks sized number lines (inr b) = inr (inr b)
 
@@ -118,9 +118,9 @@ module _ {D : Type 0} (see : D → Seen) (tells : Bool) (old new : List Seen) (s
     pub off_fit : RightLinesFit → ClosingIsHeard → FinishingAddsItsOwn → (lines : List Line) → AreLines lines scenario before → Each (λ line. IsTrue (line_fits line)) lines
     off_fit law closing finishing lines are =
         lines_fit law scenario before lines b.hosts.run.logged.whole
-        (front_heard scenario.sites whole before (run_heard closing finishing tells (faults_of old) scenario b.merged b.hosts) (front_before whole b.breaks.command before front)) are
+        (front_heard scenario.sites whole before (run_heard closing finishing (faults_of old) scenario b.merged b.hosts) (front_before whole b.breaks.command before front)) are
 
-    pub off_breaks : ((one : D) → length (see one).image.bytes ≡ (see one).size) → AreSized new → (lines : List Line) → Breaks see tells number old new scenario lines before
+    pub off_breaks : ((one : D) → length (see one).image.bytes ≡ (see one).size) → AreSized new → (lines : List Line) → Breaks see number old new scenario lines before
     off_breaks told sized lines = inl (record {
       merged = b.merged;
       hosts = b.hosts;

@@ -12,7 +12,7 @@ use Rattle.journal_disk.specs.Disk.{Seen}
 use Rattle.site_core.specs.Store.{SomeStop}
 use Rattle.fed_world.specs.Faults.{RisesAt}
 use Rattle.closing.specs.Between.{WereCalm}
-use Rattle.left_disks.specs.Holding.{CoordHolds, HoldAll, HoldOthers, SiteHolds}
+use Rattle.held_disks.specs.Holding.{CoordHolds, HoldAll, HoldOthers, SiteHolds}
 use Rattle.outputs.specs.Stops.{ActorStops}
 use Rattle.session_outputs.specs.Disks.{AreSetUp, NothingBut}
 

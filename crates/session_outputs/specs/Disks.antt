@@ -15,7 +15,7 @@ use Rattle.frame_journal.specs.Records.{spelled}
 use Rattle.journal_rules.specs.Stands.{record_frame}
 use Rattle.coord_journal.specs.Spelling as of_coordinator
 use Rattle.site_journal.specs.Spelling as of_site
-use Rattle.left_disks.specs.Holding.{HoldsAt}
+use Rattle.held_disks.specs.Holding.{HoldsAt}
 
 -- how many bytes each disk has
 abbrev pub sizes_of : List Seen → List ℕ

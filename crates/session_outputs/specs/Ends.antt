@@ -22,7 +22,7 @@ CanEnd scenario commands = length commands ≤ most_merged
 -- each transaction is committed: the world stands for the commands of the hosts' lines and those behind them, it is at rest, and no disk failed
 pub record IsEnded (tells : Bool) (old new : List Seen) (scenario : Scenario) (world : World) : Type 0 where
   pub merged : List Stamped
-  pub hosts : AreOfHosts tells (faults_of old) scenario merged
+  pub hosts : AreOfHosts (faults_of old) scenario merged
   pub stands : Stands tells world new scenario (run_commands scenario (host_commands merged))
   pub finished : AllFinished scenario (story_of scenario (run_commands scenario (host_commands merged)))
   pub calm : faults_of new ≡ faults_of old
@@ -31,12 +31,12 @@ pub record IsEnded (tells : Bool) (old new : List Seen) (scenario : Scenario) (w
 -- count of faults had risen since the hosts began, its count rose and no other
 pub record BreaksOff {D : Type 0} (seen : D → Seen) (tells : Bool) (number : ℕ) (old new : List Seen) (scenario : Scenario) (world : World) : Type 0 where
   pub merged : List Stamped
-  pub hosts : AreOfHosts tells (faults_of old) scenario merged
+  pub hosts : AreOfHosts (faults_of old) scenario merged
   pub breaks : BreaksAt seen number tells old world new (run_commands scenario (host_commands merged)) scenario (host_commands merged)
 
 -- how a run ended
 abbrev pub ComesToEnd : {D : Type 0} → (D → Seen) → Bool → List Seen → List Seen → Scenario → Ended → Type 0
 ComesToEnd seen tells old new scenario (Is.Done world) = IsEnded tells old new scenario world
 ComesToEnd seen tells old new scenario (Is.Stopped number lines) =
-    HasNotBegun tells old new scenario number lines ⊎ HasBroken tells (faults_of old) new scenario number lines
+    HasNotBegun tells old new scenario number lines ⊎ HasBroken (faults_of old) new scenario number lines
 ComesToEnd seen tells old new scenario (Is.Broken number world) = BreaksOff seen tells number old new scenario world

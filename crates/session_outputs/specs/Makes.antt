@@ -1,5 +1,5 @@
 -- What becomes of a made scenario: it runs in threads as any other one, and the summary of its journals is the output.
-use Rattle.std.specs.Prelude.{ℕ, ◌≡◌, ◌≤◌, Bool, List}
+use Rattle.std.specs.Prelude.{ℕ, ◌≡◌, ◌≤◌, List}
 use Rattle.fed_rules.specs.declared.commands.Command.{Command}
 use Rattle.fed_rules.specs.declared.commands.Line.{Line}
 use Rattle.fed_rules.specs.declared.commands.Stamped.{Stamped}
@@ -33,9 +33,9 @@ made_story making merged = story_of (made_scenario making) (run_commands (made_s
 -- all was carried out without a failed disk, as in a run of the scenario: the story is right, each transaction of the scenario is committed, once, and
 -- each disk holds the records of its actor; the output is the summary of these records; and it is told by how many sites and transactions there are,
 -- by neither the number that the scenario is made from nor what the threads did
-pub record MakesWhole (tells : Bool) (output : List ℕ) (old new : List Seen) (making : Making) : Type 0 where
+pub record MakesWhole (output : List ℕ) (old new : List Seen) (making : Making) : Type 0 where
   pub merged : List Stamped
-  pub hosts : AreOfHosts tells (faults_of old) (made_scenario making) merged
+  pub hosts : AreOfHosts (faults_of old) (made_scenario making) merged
   pub right : IsRight (made_scenario making) (made_story making merged)
   pub committed : AllCommit (made_scenario making) (made_story making merged)
   pub kept : HoldFrames new (made_scenario making) (made_story making merged)
@@ -44,19 +44,19 @@ pub record MakesWhole (tells : Bool) (output : List ℕ) (old new : List Seen) (
   pub fixed : output ≡ made_line making.sites making.transactions
 
 -- a call of a disk failed, as in a run of the scenario: the lines that were made before are right, and the output is which disk, without these lines
-pub record MakesBroken {D : Type 0} (seen : D → Seen) (tells : Bool) (output : List ℕ) (old new : List Seen) (scenario : Scenario) : Type 0 where
+pub record MakesBroken {D : Type 0} (seen : D → Seen) (output : List ℕ) (old new : List Seen) (scenario : Scenario) : Type 0 where
   pub number : ℕ
   pub done : List Command
   pub lines : List Line
   pub lines_are : AreLines lines scenario done
   pub output_is : output ≡ disk_failed_text number
-  pub breaks : Breaks seen tells number old new scenario lines done
+  pub breaks : Breaks seen number old new scenario lines done
 
--- what `make` says of its output, with disks of which this is seen, and that tell their bytes or don't
-abbrev pub making : {D : Type 0} → (D → Seen) → Bool → Account Making
-making seen tells =
+-- what `make` says of its output, with disks of which this is seen
+abbrev pub making : {D : Type 0} → (D → Seen) → Account Making
+making seen =
     record {
-      whole = MakesWhole tells;
-      broken = λ output old new asked. MakesBroken seen tells output old new (made_scenario asked);
+      whole = MakesWhole;
+      broken = λ output old new asked. MakesBroken seen output old new (made_scenario asked);
       short = λ old new asked. MayStopShort old new (made_scenario asked);
     }

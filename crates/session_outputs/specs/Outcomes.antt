@@ -10,7 +10,7 @@ use Rattle.journal_disk.specs.Disk.{Seen}
 use Rattle.fed_world.specs.Faults.{faults_of}
 use Rattle.fed_rules.specs.Right.{AreLines}
 use Rattle.line_laws.specs.Refusals.{RefuseNone}
-use Rattle.left_disks.specs.Holding.{HoldAll}
+use Rattle.held_disks.specs.Holding.{HoldAll}
 use Rattle.session_outputs.specs.Breaks.{BreaksAtNext}
 use Rattle.session_outputs.specs.Disks.{AreSetUp, HoldFrames, NothingBut}
 use Rattle.session_outputs.specs.Sessions.{IsFront, IsRight}

@@ -46,7 +46,7 @@ pub fn made_output_of<R: Threads + Wait + Sync, D: Disk + Send, G: Gate + Sync>(
     requires makeable { IsMakeable making }
     requires nine { length disks.old.items ≡ 9 }
     requires unused { is_used (sizes_of (map D.seen disks.old.items)) ≡ false }
-    ensures output { IsOutput (makes.making D.seen D.tells) result (map D.seen disks.old.items) (map D.seen disks.new.items) making }
+    ensures output { IsOutput (makes.making D.seen) result (map D.seen disks.old.items) (map D.seen disks.new.items) making }
     ensures nine { length disks.new.items ≡ 9 }
 {
     commits_are_settled_at_rest();

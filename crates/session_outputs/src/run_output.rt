@@ -33,7 +33,7 @@ pub fn run_output_of<R: Threads + Wait + Sync, D: Disk + Send, G: Gate + Sync>(
     requires told { IsTrue D.tells }
     requires nine { length disks.old.items ≡ 9 }
     requires unused { is_used (sizes_of (map D.seen disks.old.items)) ≡ false }
-    ensures output { IsOutput (running D.seen D.tells) result (map D.seen disks.old.items) (map D.seen disks.new.items) scenario }
+    ensures output { IsOutput (running D.seen) result (map D.seen disks.old.items) (map D.seen disks.new.items) scenario }
     ensures nine { length disks.new.items ≡ 9 }
 {
     right_lines_fit();

@@ -11,7 +11,7 @@ returns-in-None-clause-carries g c =
     let seen = g.D.Disk.seen in
     let sink : Stream = stream k.tells (k.written c.args.sink.now) (k.written c.put_made.new.sink) (k.faults c.args.sink.now) (k.faults c.put_made.new.sink) in
     let unused = ap is_some (ap (λ disks. first_used (sizes_of (map seen disks))) (sym c.as_slice.ensures.value) ∙ (sym c.first_used.ensures ∙ c.in-None.is)) in
-    carries_put (making seen g.D.Disk.tells) sink (map seen c.args.disks.now.items) (map seen c.made_output_of-made.new.disks.items) c.args.making c.put_made.result c.made_output_of-made.result unused (λ output whole. whole.calm)
+    carries_put (making seen) sink (map seen c.args.disks.now.items) (map seen c.made_output_of-made.new.disks.items) c.args.making c.put_made.result c.made_output_of-made.result unused (λ output whole. whole.calm)
     c.made_output_of-made.ensures.output c.put_made.ensures
 
 pub returns-in-None-clause-status : goal.returns-in-None-clause-status

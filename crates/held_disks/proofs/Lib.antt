@@ -1,0 +1,3 @@
+pub mod ForCallers
+mod NotFound
+mod Stores
