@@ -1,5 +1,5 @@
 -- How many calls the disk gets, as disk calls end.
-use Rattle.std.proofs.Common.{◌≡◌, ℕ, ◌+◌, ◌-◌, Bool, false, true, cond, Option, Some, None, Result, Ok, Err, List, [], ◌∷◌, ◌++◌, length, take, refl, sym, ap, ap₂, subst, ◌∙◌, arith}
+use Rattle.std.proofs.Common.{◌≡◌, ◌≤◌, ℕ, ◌+◌, ◌-◌, Bool, false, true, cond, Option, Some, None, Result, Ok, Err, List, [], ◌∷◌, ◌++◌, length, take, refl, sym, ap, ap₂, subst, ◌∙◌, arith}
 use Rattle.std.proofs.lemmas.Bool.{cond-true, cond-false}
 use Rattle.std.proofs.lemmas.List.{length-append}
 use Rattle.mdb_base.specs.Words.{map_some}
@@ -48,7 +48,7 @@ armed_in_force set trip is armed = (let P : Option Trip → Type 0 = λ t. Passe
 
 module _ {R : Type 0} (frame_bytes : R → ℕ) (K : Disk R → Option Trip → Type 0) (rules : Disk R) (trip : Option Trip) (set_on : Passes trip 0) (old new : Seen) where
   -- none was to be made
-  pub called_none : {A : Type 0} (beside : ℕ) (r : Result A Break) → Ends frame_bytes K rules trip [] r → HasCalled beside old new → Called beside trip [] old new r
+  pub called_none : {A : Type 0} (beside : ℕ) (r : Result A Break) → Ends frame_bytes K rules trip [] r → HasCalled beside old new → Called {R = R} beside trip [] old new r
   called_none beside (Ok done) ends called = omega (arith, called)
   called_none beside (Err (Stopped kept)) ends called =
       let (set, is, few, k, count) = ends in

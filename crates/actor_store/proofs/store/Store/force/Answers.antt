@@ -37,4 +37,4 @@ returns-in-Err-clause-called g c = λ old rules trip k.
     let seen = g.D.Disk.seen in
     let K = (KeepsBehind g.F.Format.spelling g.F.Format.is_record g.F.Format.frame_bytes g.D.Disk.tells (g.D.Disk.seen c.append.new.disk) (stored c.append.new.self) old) in
     called_early 0 trip (Append c.args.entry ∷ []) (Sync ∷ []) (seen c.args.disk.now) (seen c.append.new.disk) c.in-Err.why
-    (called_one g.F.Format.frame_bytes K rules trip (armed_in_force c.args.self.now.trip trip k.trip k.armed) (seen c.args.disk.now) (seen c.append.new.disk) (Append c.args.entry) (Err c.in-Err.why) (c.in-Err.ensures.ends old rules trip k) c.append.ensures.called)
+    (called_one g.F.Format.frame_bytes K rules trip (armed_in_force c.args.self.now.trip trip k.trip k.armed) (seen c.args.disk.now) (seen c.append.new.disk) {A = Unit {0}} (Append c.args.entry) (Err c.in-Err.why) (c.in-Err.ensures.ends old rules trip k) c.append.ensures.called)
