@@ -1,4 +1,4 @@
-use Rattle.std.proofs.Common.{sym, ap, ◌∙◌}
+use Rattle.std.proofs.Common.{refl, sym, ap, ◌∙◌}
 use Rattle.fed_rules.specs.declared.events.SiteEvent.TheVariants as Ev
 use Rattle.fed_rules.specs.declared.events.SiteStep.{SiteStep}
 use Rattle.fed_rules.specs.SitePast.{SiteHappening}
@@ -16,5 +16,5 @@ returns-clause-stood g c tells disk home past k =
     let old = c.args.self.now in
     let new = c.set_trip-step.new.self in
     let step = c.set_trip-step.result in
-    (steps stands tells old new disk disk (Ev.Trip c.args.calls c.args.cut) step home past k tt
+    (steps stands tells old new disk disk (Ev.Trip c.args.calls c.args.cut) 0 refl step home past k tt
     (trip_sets stands tells old new step disk home past c.args.calls c.args.cut k c.set_trip-step.ensures.trip c.set_trip-step.ensures.said)).stood
