@@ -257,8 +257,7 @@ module _ {P : Type 0} (test : P → Policy) (tells : Bool) (calls : List (Call C
   pub pending_failed : Ends {A = ℕ} coord_frame (Keeps (was_found past) tells after new.store) (Past.disk past) (Past.trip past) calls (Err Failed)
       → is_up new.store.standing ≡ false → HasCalledAtMost (0 + length calls) before after → Fails test tells (0 + calls_for terms past event) before Err_is.Disk new after terms past event
   pending_failed e down few =
-      let ends = subst (λ (cs : List (Call CoordRecord)). Ends {A = ℕ} coord_frame (Keeps (was_found past) tells after new.store) (Past.disk past) (Past.trip past) cs (Err Failed)) (sym p.makes) e in
-      (
+      let ends = subst (λ (cs : List (Call CoordRecord)). Ends {A = ℕ} coord_frame (Keeps (was_found past) tells after new.store) (Past.disk past) (Past.trip past) cs (Err Failed)) (sym p.makes) e in (
         fails_by test tells terms past new after p.ready.sound p.ready.up (sites ∙ p.ready.protocols) (ap test policy ∙ p.ready.policy) begun_behind down
             event x p.answered.usual p.answered.line p.answered.heard p.answered.numbered ends,
         few_for terms past event 0 calls before after (ap (λ (y : CoordHappening). y.calls) p.answered.line ∙ p.makes) few,

@@ -9,7 +9,7 @@ ghost use Rattle.fed_hosts.specs.Views.{HasServed, view_of};
 
 use crate::answers::again;
 use crate::plans::Plan;
-use crate::site_actor::{MOST_BEGUN, MOST_LINES, SiteActor, LineParts};
+use crate::site_actor::{LineParts, MOST_BEGUN, MOST_LINES, SiteActor};
 use crate::verbs::{Verb, command, is_begin, site_ask};
 use engine_contract::LocalEngine;
 use fed_rules::Answer;

@@ -12,7 +12,7 @@ ghost use Rattle.fed_hosts.specs.Turns.{HasTurned, Inquires, Restarts, Takes};
 ghost use Rattle.fed_hosts.specs.Views.{view_of};
 
 use crate::plans::Plan;
-use crate::site_actor::{MOST_LINES, SiteActor, LineParts};
+use crate::site_actor::{LineParts, MOST_LINES, SiteActor};
 use engine_contract::LocalEngine;
 use fed_messages::{Packet, decode_to};
 use fed_rules::{Command, ToSite};

@@ -5,8 +5,8 @@ ghost use Rattle.fed_world.specs.Worlds.{EachCoordAsk, EachSiteAsk, EachWhere, H
 
 use crate::asks::Asked;
 use crate::errors::WorldErr;
-use crate::seats::tell_seat;
 use crate::heard::Heard;
+use crate::seats::tell_seat;
 use crate::world::World;
 use fed_rules::{Answer, Command, Places};
 use global_manager::CoordAsk;

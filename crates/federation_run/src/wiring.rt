@@ -132,8 +132,12 @@ fn wiring_of(alloc: Global, scenario: &Scenario, cores: SiteCores) -> Result<Wir
     let sites = cores.items;
     let declared = declared_sites(alloc, scenario)?;
     let stops = stops_of(alloc, scenario, 0)?;
-    let WiredSites { wired_sites, ports } =
-        wire_sites(alloc, scenario, declared.as_slice(), sites)?;
+    let WiredSites { wired_sites, ports } = wire_sites(
+        alloc,
+        scenario,
+        declared.as_slice(),
+        sites,
+    )?;
     Ok(Wiring {
         stops,
         wired_sites,

@@ -28,11 +28,10 @@ room_for-requires-clause-fits g c =
     abort_record_fits m.terms m.past c.args.tid c.in-Ok-abort_record.entry m.stood.holds.sound (c.in-Ok-abort_record.ensures m.terms m.past m.stood.holds.sound s m.holds)
 
 pub returns-in_default-room_for-clause-failed : goal.returns-in_default-room_for-clause-failed
-returns-in_default-room_for-clause-failed g c = λ terms past event k i.
-    (
-      stands_roomed g.P.TakePolicy.policy g.D.Disk.tells c.args.self.now c.room_for.new.store (g.D.Disk.seen c.args.disk.now) (g.D.Disk.seen c.room_for.new.disk) terms past c.room_for.ensures.keeps c.room_for.ensures.standing k,
-      none_at_most (0 + calls_for terms past event) (g.D.Disk.seen c.args.disk.now) (g.D.Disk.seen c.room_for.new.disk) c.room_for.ensures.called,
-    )
+returns-in_default-room_for-clause-failed g c = λ terms past event k i. (
+  stands_roomed g.P.TakePolicy.policy g.D.Disk.tells c.args.self.now c.room_for.new.store (g.D.Disk.seen c.args.disk.now) (g.D.Disk.seen c.room_for.new.disk) terms past c.room_for.ensures.keeps c.room_for.ensures.standing k,
+  none_at_most (0 + calls_for terms past event) (g.D.Disk.seen c.args.disk.now) (g.D.Disk.seen c.room_for.new.disk) c.room_for.ensures.called,
+)
 
 pub end-requires-clause-kept : goal.end-requires-clause-kept
 end-requires-clause-kept g c =

@@ -23,11 +23,10 @@ pub room_for-requires-clause-fits : goal.room_for-requires-clause-fits
 room_for-requires-clause-fits g c = end_fits c.args.tid
 
 pub returns-in_default-clause-failed : goal.returns-in_default-clause-failed
-returns-in_default-clause-failed g c = λ terms past k st.
-    (
-      stands_roomed g.P.TakePolicy.policy g.D.Disk.tells c.args.self.now c.room_for.new.store (g.D.Disk.seen c.args.disk.now) (g.D.Disk.seen c.room_for.new.disk) terms past c.room_for.ensures.keeps c.room_for.ensures.standing k,
-      none_at_most (0 + calls_for terms past (Ev.Take c.args.site (From.Ack c.args.tid))) (g.D.Disk.seen c.args.disk.now) (g.D.Disk.seen c.room_for.new.disk) c.room_for.ensures.called,
-    )
+returns-in_default-clause-failed g c = λ terms past k st. (
+  stands_roomed g.P.TakePolicy.policy g.D.Disk.tells c.args.self.now c.room_for.new.store (g.D.Disk.seen c.args.disk.now) (g.D.Disk.seen c.room_for.new.disk) terms past c.room_for.ensures.keeps c.room_for.ensures.standing k,
+  none_at_most (0 + calls_for terms past (Ev.Take c.args.site (From.Ack c.args.tid))) (g.D.Disk.seen c.args.disk.now) (g.D.Disk.seen c.room_for.new.disk) c.room_for.ensures.called,
+)
 
 pub returns-in-Ignored-clause-answered : goal.returns-in-Ignored-clause-answered
 returns-in-Ignored-clause-answered g c = λ terms past k st.

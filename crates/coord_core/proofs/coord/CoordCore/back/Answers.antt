@@ -45,8 +45,7 @@ pub returns-in-Err-Memory-clause-failed : goal.returns-in-Err-Memory-clause-fail
 returns-in-Err-Memory-clause-failed g c = λ terms past k can.
     let old = c.args.self.now in
     let before = g.D.Disk.seen c.args.disk.now in
-    let read = g.D.Disk.seen c.reload.new.disk in
-    (
+    let read = g.D.Disk.seen c.reload.new.disk in (
       stays_down g.P.TakePolicy.policy g.D.Disk.tells old (record old { store = c.reload.new.self }) before read terms past k c.requires.down
           (from_kept k.stored (c.reload.ensures.keeps _ _ _ k.stored.behind)) c.reload.ensures.standing refl refl refl,
       read_at_most old before read (calls_for terms past Ev.Back) c.requires.down c.in-Err-Memory.ensures.called.failed,

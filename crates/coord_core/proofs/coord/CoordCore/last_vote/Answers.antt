@@ -69,8 +69,7 @@ try_tickets-requires-clause-may g c =
 
 pub returns-in-Err-clause-failed : goal.returns-in-Err-clause-failed
 returns-in-Err-clause-failed g c = λ terms past k l.
-    let most = 0 + calls_for terms past (vote_event c.args.site c.args.tid (Some c.args.ticket)) in
-    (
+    let most = 0 + calls_for terms past (vote_event c.args.site c.args.tid (Some c.args.ticket)) in (
       stands_as g.P.TakePolicy.policy g.D.Disk.tells c.room_for_commit.new.self c.try_tickets.new.self (g.D.Disk.seen c.room_for_commit.new.disk) terms past c.in-Err.ensures.memory (c.room_for_commit.ensures.stands terms past k),
       none_at_most most (g.D.Disk.seen c.args.disk.now) (g.D.Disk.seen c.room_for_commit.new.disk) c.room_for_commit.ensures.called,
     )

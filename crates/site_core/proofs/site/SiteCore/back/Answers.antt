@@ -79,8 +79,7 @@ returns-in-Ok-clause-failed g c =
 pub returns-in-Err-Memory-clause-failed : goal.returns-in-Err-Memory-clause-failed
 returns-in-Err-Memory-clause-failed g c = λ home past k.
     let core = c.args.self.now in
-    let before = g.D.Disk.seen c.args.disk.now in
-    (
+    let before = g.D.Disk.seen c.args.disk.now in (
       roomier g.E.LocalEngine.stands g.D.Disk.tells core _ before (g.D.Disk.seen c.reload.new.disk) home past k (from_kept k.stored (c.reload.ensures.keeps _ _ _ k.stored.behind)) c.reload.ensures.standing refl,
       read_at_most core before (g.D.Disk.seen c.reload.new.disk) (calls_for home past Ev.Back) c.requires.down c.in-Err-Memory.ensures.called.failed,
     )

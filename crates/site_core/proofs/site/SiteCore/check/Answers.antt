@@ -28,11 +28,10 @@ pub frame_len-bytes-requires : goal.frame_len-bytes-requires
 frame_len-bytes-requires g c = checkpoint_fits c.in-Ok.sum (sym c.is_large.ensures ∙ c.if-is_large.false)
 
 pub returns-in_default-make_room-clause-failed : goal.returns-in_default-make_room-clause-failed
-returns-in_default-make_room-clause-failed g c = λ home past k.
-    (
-      roomier g.E.LocalEngine.stands g.D.Disk.tells c.args.self.now _ (g.D.Disk.seen c.args.disk.now) (g.D.Disk.seen c.make_room.new.disk) home past k (from_kept k.stored (c.make_room.ensures.keeps _ _ _ k.stored.behind)) c.make_room.ensures.standing refl,
-      none_at_most (0 + calls_for home past Ev.Check) (g.D.Disk.seen c.args.disk.now) (g.D.Disk.seen c.make_room.new.disk) c.make_room.ensures.called,
-    )
+returns-in_default-make_room-clause-failed g c = λ home past k. (
+  roomier g.E.LocalEngine.stands g.D.Disk.tells c.args.self.now _ (g.D.Disk.seen c.args.disk.now) (g.D.Disk.seen c.make_room.new.disk) home past k (from_kept k.stored (c.make_room.ensures.keeps _ _ _ k.stored.behind)) c.make_room.ensures.standing refl,
+  none_at_most (0 + calls_for home past Ev.Check) (g.D.Disk.seen c.args.disk.now) (g.D.Disk.seen c.make_room.new.disk) c.make_room.ensures.called,
+)
 
 pub check-requires-clause-kept : goal.check-requires-clause-kept
 check-requires-clause-kept g c =

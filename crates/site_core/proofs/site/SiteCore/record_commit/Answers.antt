@@ -48,12 +48,11 @@ commit_local-requires-clause-running g c =
     runs_here g.E.LocalEngine.stands g.D.Disk.tells c.args.tid c.args.sealed c.args.self.now (g.D.Disk.seen c.args.disk.now) m.home m.past m.stood c.requires.up m.holds.apart
 
 pub returns-in_default-clause-failed : goal.returns-in_default-clause-failed
-returns-in_default-clause-failed g c = λ home past k may.
-    (
-      unsealed_stands g.E.LocalEngine.stands g.D.Disk.tells c.args.tid c.args.sealed c.args.self.now _ (g.D.Disk.seen c.args.disk.now) (g.D.Disk.seen c.make_room.new.disk) home past k c.requires.up
-          (from_kept k.stood.stored (c.make_room.ensures.keeps _ _ _ k.stood.stored.behind)) (c.make_room.ensures.standing ∙ c.requires.up) refl (c.unseal.ensures (epoch_start home past) (engine_lines past) c.args.sealed.number k.sealing),
-      none_at_most (0 + calls_for home past (Ev.Commit c.args.tid)) (g.D.Disk.seen c.args.disk.now) (g.D.Disk.seen c.make_room.new.disk) c.make_room.ensures.called,
-    )
+returns-in_default-clause-failed g c = λ home past k may. (
+  unsealed_stands g.E.LocalEngine.stands g.D.Disk.tells c.args.tid c.args.sealed c.args.self.now _ (g.D.Disk.seen c.args.disk.now) (g.D.Disk.seen c.make_room.new.disk) home past k c.requires.up
+      (from_kept k.stood.stored (c.make_room.ensures.keeps _ _ _ k.stood.stored.behind)) (c.make_room.ensures.standing ∙ c.requires.up) refl (c.unseal.ensures (epoch_start home past) (engine_lines past) c.args.sealed.number k.sealing),
+  none_at_most (0 + calls_for home past (Ev.Commit c.args.tid)) (g.D.Disk.seen c.args.disk.now) (g.D.Disk.seen c.make_room.new.disk) c.make_room.ensures.called,
+)
 
 pub returns-in-Ok-force-clause-answered : goal.returns-in-Ok-force-clause-answered
 returns-in-Ok-force-clause-answered g c = λ home past k may.

@@ -35,8 +35,7 @@ pub returns-in_default-clause-failed : goal.returns-in_default-clause-failed
 returns-in_default-clause-failed g c = λ home past k may n finished.
     let core = c.args.self.now in
     let reserved : SiteCore _ = record core { doubts = c.reserve.new.self } in
-    let ready = reserved_sealing g.E.LocalEngine.stands g.D.Disk.tells c.args.tid c.args.sealed core c.reserve.new.self (g.D.Disk.seen c.args.disk.now) home past c.requires.up c.reserve.ensures.doubts k in
-    (
+    let ready = reserved_sealing g.E.LocalEngine.stands g.D.Disk.tells c.args.tid c.args.sealed core c.reserve.new.self (g.D.Disk.seen c.args.disk.now) home past c.requires.up c.reserve.ensures.doubts k in (
       unsealed_stands g.E.LocalEngine.stands g.D.Disk.tells c.args.tid c.args.sealed reserved _ (g.D.Disk.seen c.args.disk.now) (g.D.Disk.seen c.args.disk.now) home past ready c.requires.up
           k.stood.stored c.requires.up refl (c.unseal.ensures (epoch_start home past) (engine_lines past) c.args.sealed.number k.sealing),
       none_at_most (0 + calls_for home past (Ev.Give (To.Prepare c.args.tid core.epoch n))) (g.D.Disk.seen c.args.disk.now) (g.D.Disk.seen c.args.disk.now) refl,
@@ -46,8 +45,7 @@ pub returns-in_default-make_room-clause-failed : goal.returns-in_default-make_ro
 returns-in_default-make_room-clause-failed g c = λ home past k may n finished.
     let core = c.args.self.now in
     let reserved : SiteCore _ = record core { doubts = c.reserve.new.self } in
-    let ready = reserved_sealing g.E.LocalEngine.stands g.D.Disk.tells c.args.tid c.args.sealed core c.reserve.new.self (g.D.Disk.seen c.args.disk.now) home past c.requires.up c.reserve.ensures.doubts k in
-    (
+    let ready = reserved_sealing g.E.LocalEngine.stands g.D.Disk.tells c.args.tid c.args.sealed core c.reserve.new.self (g.D.Disk.seen c.args.disk.now) home past c.requires.up c.reserve.ensures.doubts k in (
       unsealed_stands g.E.LocalEngine.stands g.D.Disk.tells c.args.tid c.args.sealed reserved _ (g.D.Disk.seen c.args.disk.now) (g.D.Disk.seen c.make_room.new.disk) home past ready c.requires.up
           (from_kept k.stood.stored (c.make_room.ensures.keeps _ _ _ k.stood.stored.behind)) (c.make_room.ensures.standing ∙ c.requires.up) refl
           (c.unseal-in_default-make_room.ensures (epoch_start home past) (engine_lines past) c.args.sealed.number k.sealing),

@@ -15,11 +15,10 @@ use Rattle.site_core.proofs.RememberLaws.{is_up_at}
 use Rattle.site_core.proofs.site.SiteCore.settle.Goals as goal
 
 pub returns-in_default-clause-failed : goal.returns-in_default-clause-failed
-returns-in_default-clause-failed g c = λ home past k may.
-    (
-      roomier g.E.LocalEngine.stands g.D.Disk.tells c.args.self.now _ (g.D.Disk.seen c.args.disk.now) (g.D.Disk.seen c.make_room.new.disk) home past k (from_kept k.stored (c.make_room.ensures.keeps _ _ _ k.stored.behind)) c.make_room.ensures.standing refl,
-      none_at_most (0 + calls_for home past (Ev.Give (To.Decide c.args.tid c.args.decision))) (g.D.Disk.seen c.args.disk.now) (g.D.Disk.seen c.make_room.new.disk) c.make_room.ensures.called,
-    )
+returns-in_default-clause-failed g c = λ home past k may. (
+  roomier g.E.LocalEngine.stands g.D.Disk.tells c.args.self.now _ (g.D.Disk.seen c.args.disk.now) (g.D.Disk.seen c.make_room.new.disk) home past k (from_kept k.stored (c.make_room.ensures.keeps _ _ _ k.stored.behind)) c.make_room.ensures.standing refl,
+  none_at_most (0 + calls_for home past (Ev.Give (To.Decide c.args.tid c.args.decision))) (g.D.Disk.seen c.args.disk.now) (g.D.Disk.seen c.make_room.new.disk) c.make_room.ensures.called,
+)
 
 pub write-requires-clause-kept : goal.write-requires-clause-kept
 write-requires-clause-kept g c =

@@ -48,11 +48,10 @@ overflow_cast-doubtful g c =
     omega (arith, c.len-doubtful.ensures, same, few)
 
 pub returns-in_default-make_room-clause-failed : goal.returns-in_default-make_room-clause-failed
-returns-in_default-make_room-clause-failed g c = λ home past k.
-    (
-      roomier g.E.LocalEngine.stands g.D.Disk.tells c.args.self.now _ (g.D.Disk.seen c.args.disk.now) (g.D.Disk.seen c.make_room.new.disk) home past k (from_kept k.stored (c.make_room.ensures.keeps _ _ _ k.stored.behind)) c.make_room.ensures.standing refl,
-      none_at_most (uncounted (stored c.args.self.now.store) + calls_for home past Ev.Back) (g.D.Disk.seen c.args.disk.now) (g.D.Disk.seen c.make_room.new.disk) c.make_room.ensures.called,
-    )
+returns-in_default-make_room-clause-failed g c = λ home past k. (
+  roomier g.E.LocalEngine.stands g.D.Disk.tells c.args.self.now _ (g.D.Disk.seen c.args.disk.now) (g.D.Disk.seen c.make_room.new.disk) home past k (from_kept k.stored (c.make_room.ensures.keeps _ _ _ k.stored.behind)) c.make_room.ensures.standing refl,
+  none_at_most (uncounted (stored c.args.self.now.store) + calls_for home past Ev.Back) (g.D.Disk.seen c.args.disk.now) (g.D.Disk.seen c.make_room.new.disk) c.make_room.ensures.called,
+)
 
 pub recover-requires-clause-start : goal.recover-requires-clause-start
 recover-requires-clause-start g c =
@@ -74,8 +73,7 @@ pub returns-in_default-recover-clause-failed : goal.returns-in_default-recover-c
 returns-in_default-recover-clause-failed g c = λ home past k.
     let core = c.args.self.now in
     let store : c.recover.new.self.store ≡ c.make_room.new.self = ap (λ (x : SiteCore _). x.store) c.recover.ensures.rest in
-    let P : Store → Type 0 = λ s. Keeps (was_found past) g.D.Disk.tells (g.D.Disk.seen c.make_room.new.disk) s (disk home past) (trip past) in
-    (
+    let P : Store → Type 0 = λ s. Keeps (was_found past) g.D.Disk.tells (g.D.Disk.seen c.make_room.new.disk) s (disk home past) (trip past) in (
       stays_down g.E.LocalEngine.stands g.D.Disk.tells core c.recover.new.self (g.D.Disk.seen c.args.disk.now) (g.D.Disk.seen c.make_room.new.disk) home past k c.requires.down
           (subst P (sym store) (from_kept k.stored (c.make_room.ensures.keeps _ _ _ k.stored.behind))) (ap (λ (s : Store). s.standing) store ∙ c.make_room.ensures.standing)
           (kind_kept g.E.LocalEngine.stands core.engine c.recover.new.self.engine home.engine (kind_at g.E.LocalEngine.stands core home past k.holds.memory) c.in_default-recover.ensures.memory)
