@@ -39,11 +39,11 @@ fn reach_committed(begun: &mut Begun, attempts: &[CommittedAttempt]) -> Result<(
 }
 
 /// Notes the attempts that a record names.
-fn reach_record(begun: &mut Begun, record: &CoordRecord) -> Result<(), Memory>
-    requires { Each (λ (tid : TheTid). tid.attempt < 32) (attempts_in record.now) }
-    ensures { OnOk result ((tx : TheTx) → noted begun.new.listed tx ≡ reached tx (noted begun.old.listed tx) (attempts_in record.now)) }
+fn reach_record(begun: &mut Begun, kept: &CoordRecord) -> Result<(), Memory>
+    requires { Each (λ (tid : TheTid). tid.attempt < 32) (attempts_in kept.now) }
+    ensures { OnOk result ((tx : TheTx) → noted begun.new.listed tx ≡ reached tx (noted begun.old.listed tx) (attempts_in kept.now)) }
 {
-    match record {
+    match kept {
         CoordRecord::Initiation { tid, .. } => begun.reach(*tid),
         CoordRecord::Commit { tid, .. } => begun.reach(*tid),
         CoordRecord::Abort { tid, .. } => begun.reach(*tid),

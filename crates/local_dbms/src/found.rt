@@ -52,11 +52,11 @@ fn note_tids(alloc: Global, programs: &mut Vec<Option<Program>>, tids: &[Tid]) -
 fn note_record(
     alloc: Global,
     programs: &mut Vec<Option<Program>>,
-    record: &SiteRecord,
+    kept: &SiteRecord,
 ) -> Result<(), Memory>
-    ensures { OnOk result ((other : TheTx) → program_in programs.new.items other ≡ cond (has_local other record.now) (Some made_up) (program_in programs.old.items other)) }
+    ensures { OnOk result ((other : TheTx) → program_in programs.new.items other ≡ cond (has_local other kept.now) (Some made_up) (program_in programs.old.items other)) }
 {
-    match record {
+    match kept {
         SiteRecord::Local { tid, .. } => note_found(alloc, programs, tid),
         SiteRecord::Checkpoint(sum) => note_tids(alloc, programs, sum.locals.as_slice()),
         _ => Ok(()),

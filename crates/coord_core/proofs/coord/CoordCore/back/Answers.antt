@@ -9,6 +9,20 @@ use Rattle.coord_core.proofs.Backs.{read_failed, stays_down}
 use Rattle.coord_core.proofs.CalledLaws.{fails_later, read_at_most, starting_beside, steps_beside, steps_later}
 use Rattle.coord_core.proofs.coord.CoordCore.back.Goals as goal
 
+pub come_up-requires-clause-may : goal.come_up-requires-clause-may
+come_up-requires-clause-may g c =
+    let m = c.requires.may in
+    let old = c.args.self.now in
+    let before = g.D.Disk.seen c.args.disk.now in
+    let read = g.D.Disk.seen c.reload.new.disk in
+    record {
+      terms = m.terms;
+      past = m.past;
+      stood = stays_down g.P.TakePolicy.policy g.D.Disk.tells old (record old { store = c.reload.new.self }) before read m.terms m.past m.stood c.requires.down
+          (from_kept m.stood.stored (c.reload.ensures.keeps _ _ _ m.stood.stored.behind)) c.reload.ensures.standing refl refl refl;
+      holds = m.holds;
+    }
+
 pub returns-in-Ok-clause-answered : goal.returns-in-Ok-clause-answered
 returns-in-Ok-clause-answered g c =
     let old = c.args.self.now in
