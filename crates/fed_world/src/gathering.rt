@@ -53,6 +53,7 @@ impl World {
             lines: _,
             broken: _,
             begun: _,
+            places: _,
         } = self;
         cores
     }
@@ -84,6 +85,7 @@ impl World {
             lines: lines.into_items(),
             broken: false,
             begun: None,
+            places: Vec::new(alloc),
         })
     }
 }

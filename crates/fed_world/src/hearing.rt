@@ -73,19 +73,19 @@ impl World {
         ensures keeps { KeepsLines self.old self.new }
         ensures cause { CountsTell result (map D.seen disks.old.items) (map D.seen disks.new.items) }
     {
-        let mut places = Vec::new(alloc);
-        let Ok(()) = places.reserve(self.traffic.len()) else {
+        let Ok(()) = make_room(&mut self.traffic) else {
             return Err(WorldErr::Memory);
         };
-        let Ok(()) = make_room(&mut self.traffic) else {
+        self.places.clear();
+        let Ok(()) = self.places.reserve(self.traffic.len()) else {
             return Err(WorldErr::Memory);
         };
         match self.cores.coordinator.ask(alloc, &mut disks[0], ask) {
             Ok(step) => {
-                post(&mut self.traffic, step.sends.as_slice(), &mut places);
+                post(&mut self.traffic, step.sends.as_slice(), &mut self.places);
                 Ok(Heard {
                     answer: step.answer,
-                    sends: Places::taken(alloc, &mut places),
+                    sends: Places::taken(alloc, &mut self.places),
                 })
             }
             Err(why) => Err(world_err(0, why)),

@@ -191,6 +191,7 @@ fn reopen_actors<D: Disk>(alloc: Global, plan: Plan, disks: &mut Vec<D>) -> Resu
                         lines: Vec::new(alloc),
                         broken: false,
                         begun: Some(begun),
+                        places: Vec::new(alloc),
                     })
                 }
                 Err(why) => Err(why),

@@ -245,6 +245,7 @@ impl World {
                     lines: Vec::new(alloc),
                     broken: false,
                     begun: None,
+                    places: Vec::new(alloc),
                 })
             }
             Err(why) => Err(why),

@@ -6,14 +6,15 @@ ghost use Rattle.fed_world.specs.Worlds.{AddsLine, EachStory, EachWhere, FailsAt
 
 use crate::cores::Cores;
 use crate::errors::WorldErr;
-use fed_rules::{Command, Line};
+use fed_rules::{Command, Line, Place};
 use journal_disk::Disk;
 use mdb_base::{Memory, Tid};
 use session_routes::{Routes, Traffic};
 use std::alloc::Global;
 
 /// A session: its actors with the scenario, who hears of a command, the messages to and from each site, by rising site, the lines made so
-/// far, whether a disk call failed, and where it goes on from disks the global attempts that a record there names.
+/// far, whether a disk call failed, and where it goes on from disks the global attempts that a record there names; with the memory in which
+/// the places of what the coordinator sends are gathered.
 #[derive(Drop)]
 pub struct World {
     pub(crate) cores: Cores,
@@ -22,6 +23,7 @@ pub struct World {
     pub(crate) lines: Vec<Line>,
     pub(crate) broken: bool,
     pub(crate) begun: Option<Vec<Tid>>,
+    pub(crate) places: Vec<Place>,
 }
 
 impl World {

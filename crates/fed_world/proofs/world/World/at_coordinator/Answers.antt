@@ -9,7 +9,8 @@ use Rattle.fed_world.proofs.Faults.{failure_told, line_told}
 use Rattle.fed_world.proofs.world.World.at_coordinator.Goals as goal
 
 pub returns-in_default-clause-failed : goal.returns-in_default-clause-failed
-returns-in_default-clause-failed g c session commands command s asks room = s.stand
+returns-in_default-clause-failed g c session commands command s asks room =
+    roomed_stands g.D.Disk.tells c.args.self.now (map g.D.Disk.seen c.args.disks.now.items) session commands s.stand _ refl (record { cores_are = refl; marks_are = refl; channels_are = c.make_room.ensures.same })
 
 pub returns-in_default-clause-keeps : goal.returns-in_default-clause-keeps
 returns-in_default-clause-keeps g c = record { lines = refl; broken = refl; routes = refl; scenario = refl; begun = refl }
@@ -17,15 +18,15 @@ returns-in_default-clause-keeps g c = record { lines = refl; broken = refl; rout
 pub returns-in_default-clause-cause : goal.returns-in_default-clause-cause
 returns-in_default-clause-cause g c = refl
 
-pub returns-in_default-make_room-clause-failed : goal.returns-in_default-make_room-clause-failed
-returns-in_default-make_room-clause-failed g c session commands command s asks room =
+pub returns-in_default-reserve-clause-failed : goal.returns-in_default-reserve-clause-failed
+returns-in_default-reserve-clause-failed g c session commands command s asks room =
     roomed_stands g.D.Disk.tells c.args.self.now (map g.D.Disk.seen c.args.disks.now.items) session commands s.stand _ refl (record { cores_are = refl; marks_are = refl; channels_are = c.make_room.ensures.same })
 
-pub returns-in_default-make_room-clause-keeps : goal.returns-in_default-make_room-clause-keeps
-returns-in_default-make_room-clause-keeps g c = record { lines = refl; broken = refl; routes = refl; scenario = refl; begun = refl }
+pub returns-in_default-reserve-clause-keeps : goal.returns-in_default-reserve-clause-keeps
+returns-in_default-reserve-clause-keeps g c = record { lines = refl; broken = refl; routes = refl; scenario = refl; begun = refl }
 
-pub returns-in_default-make_room-clause-cause : goal.returns-in_default-make_room-clause-cause
-returns-in_default-make_room-clause-cause g c = refl
+pub returns-in_default-reserve-clause-cause : goal.returns-in_default-reserve-clause-cause
+returns-in_default-reserve-clause-cause g c = refl
 
 pub index_mut-requires : goal.index_mut-requires
 index_mut-requires g c =
@@ -44,14 +45,14 @@ ask-requires-clause-stood g c =
     may_ask_coord g.D.Disk.tells c.args.self.now (map g.D.Disk.seen c.args.disks.now.items) r.session r.commands r.stood.stand (g.D.Disk.seen c.index_mut.result.now) (g.D.Disk.seen c.index_mut.result.now) at c.args.ask r.command r.asks
 
 pub post-requires-clause-room : goal.post-requires-clause-room
-post-requires-clause-room g c = c.in-Ok-make_room.ensures.room
+post-requires-clause-room g c = c.in-Ok.ensures.room
 
 pub post-requires-clause-empty : goal.post-requires-clause-empty
-post-requires-clause-empty g c = c.reserve.ensures.items ∙ c.new-places.ensures.items
+post-requires-clause-empty g c = c.reserve.ensures.items ∙ c.clear.ensures.items
 
 pub post-requires-clause-places : goal.post-requires-clause-places
 post-requires-clause-places g c =
-    let room = c.in-Ok.ensures.ok in
+    let room = c.in-Ok-reserve.ensures.ok in
     let many = c.len.ensures in
     let same = c.make_room.ensures.same.count in
     let size = c.args.self.now.traffic.ok.0 in
@@ -82,18 +83,18 @@ returns-in-Ok-ask-clause-cause g c =
     line_told (map g.D.Disk.seen c.args.disks.now.items) _ 0 (g.D.Disk.seen c.index_mut.result.now) (g.D.Disk.seen c.ask.new.disk) at
     (seen_put g.D.Disk.seen c.args.disks.now.items 0 c.ask.new.disk) _ c.in-Ok-ask.step refl c.in-Ok-ask.ensures.cause
 
-pub returns-clause-failed : goal.returns-clause-failed
-returns-clause-failed g c session commands command s asks room =
+pub returns-in-Err-clause-failed : goal.returns-in-Err-clause-failed
+returns-in-Err-clause-failed g c session commands command s asks room =
     let at = first_disk g.D.Disk.seen c.args.disks.now.items c.index_mut.result.now session s.stand.others c.index_mut.ensures.value in
     fails_told g.D.Disk.tells c.args.self.now (map g.D.Disk.seen c.args.disks.now.items) session commands s.stand (g.D.Disk.seen c.index_mut.result.now) (g.D.Disk.seen c.ask.new.disk) at c.args.ask command asks
     c.in-Err.why c.world_err.result _ _ c.world_err.ensures (seen_put g.D.Disk.seen c.args.disks.now.items 0 c.ask.new.disk)
     (record { cores_are = refl; marks_are = refl; channels_are = c.make_room.ensures.same }) c.in-Err.ensures.failed
 
-pub returns-clause-keeps : goal.returns-clause-keeps
-returns-clause-keeps g c = record { lines = refl; broken = refl; routes = refl; scenario = refl; begun = refl }
+pub returns-in-Err-clause-keeps : goal.returns-in-Err-clause-keeps
+returns-in-Err-clause-keeps g c = record { lines = refl; broken = refl; routes = refl; scenario = refl; begun = refl }
 
-pub returns-clause-cause : goal.returns-clause-cause
-returns-clause-cause g c =
+pub returns-in-Err-clause-cause : goal.returns-in-Err-clause-cause
+returns-in-Err-clause-cause g c =
     let r = c.requires.stood in
     let at = first_disk g.D.Disk.seen c.args.disks.now.items c.index_mut.result.now r.session r.stood.stand.others c.index_mut.ensures.value in
     subst (λ (why : WorldErr). FailedAs why (map g.D.Disk.seen c.args.disks.now.items) (map g.D.Disk.seen (slice_set c.args.disks.now.items 0 c.ask.new.disk))) (sym c.world_err.ensures)

@@ -61,6 +61,7 @@ returns-in-Ok-set_up_sites-clause-stands g c =
       lines = c.new.result;
       broken = false;
       begun = None;
+      places = c.new-in-Ok-set_up_sites.result;
     } in
     new_stands g.D.Disk.tells world (map g.D.Disk.seen disks) scenario c.in-Ok.ensures.whole c.requires.told (length-map disks g.D.Disk.seen ∙ c.set_up_sites.ensures.count)
     (λ (seen : Seen) at. (let (disk, got, is) = made_of g.D.Disk.seen disks 0 seen at in subst (λ (s : Seen). TellsBytes s) is (record { bytes = g.met.D.Disk.told_size disk c.requires.told; sound = g.met.D.Disk.is_sound disk c.requires.told })))
