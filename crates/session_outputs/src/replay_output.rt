@@ -102,6 +102,8 @@ pub fn output_of<D: Disk>(
     };
     match play(alloc, &mut world, commands.as_slice(), disks) {
         Ok(()) => {
+            // Their memory is room for what is printed.
+            drop(commands);
             let output = printed(alloc, &world);
             drop(world);
             output
