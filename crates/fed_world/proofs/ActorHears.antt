@@ -1,15 +1,16 @@
 -- What an actor hears of a command, from what it answers to what is asked of it.
-use Rattle.std.proofs.Common.{ℕ, Bool, List, Result, Ok, Err, IfOk, IfErr}
+use Rattle.std.proofs.Common.{ℕ, Bool, List, Result, Ok, Err, IfErr, OnOk}
 use Rattle.fed_rules.specs.declared.commands.Command.{Command}
+use Rattle.fed_rules.specs.declared.commands.Line.{Line}
 use Rattle.fed_rules.specs.Sessions.{Session}
 use Rattle.fed_rules.specs.Story.{story_in}
 use Rattle.journal_disk.specs.Disk.{Seen}
 use Rattle.local_dbms.specs.declared.asks.SiteAsk.{SiteAsk}
-use Rattle.fed_world.specs.declared.heard.Heard.{Heard}
 use Rattle.global_manager.specs.declared.asks.CoordAsk.{CoordAsk}
 use Rattle.fed_world.specs.declared.errors.WorldErr.{WorldErr}
 use Rattle.fed_world.specs.declared.world.World.{World}
 use Rattle.fed_world.specs.Asks.{AsksCoordinator, AsksSite}
+use Rattle.fed_world.specs.Lines.{AddsWhere}
 use Rattle.fed_world.specs.Worlds.{EachCoordAsk, EachSiteAsk, EachStory, HasRoom, Recalls, SomeCoordAsk, SomeSiteAsk, SomeStory, Stands}
 use Rattle.fed_world.proofs.Recalled.{recalls}
 
@@ -50,28 +51,28 @@ module _ (tells : Bool) (world : World) (disks : List Seen) (command : Command) 
       → EachCoordAsk (Stands tells world disks) ask P → EachStory (Stands tells world disks) (λ session commands. HasRoom session commands → P command session commands)
   coord_told ask asked P told session commands stood room = told session commands command stood (asked session commands (recalls tells world disks session commands stood)) room
 
-  -- the site's answer is that to the command
+  -- the line with the site's answer is that of the command
   pub site_heard : (place : ℕ) (ask : SiteAsk) → EachStory (Recalls world) (λ session commands. AsksSite place ask command session (story_in session commands))
-      → (P : Heard → OfCommand) (r : Result Heard WorldErr) → IfOk r (λ heard. EachSiteAsk (Stands tells world disks) place ask (P heard))
-      → IfOk r (λ heard. EachStory (Stands tells world disks) (λ session commands. HasRoom session commands → P heard command session commands))
-  site_heard place ask asked P (Ok heard) told = site_told place ask asked (P heard) told
-  site_heard place ask asked P (Err why) told = tt
+      → {T : Type 0} (old new : List Line) (P : Line → OfCommand) (r : Result T WorldErr) → OnOk r (AddsWhere old new command (λ line. EachSiteAsk (Stands tells world disks) place ask (P line)))
+      → OnOk r (AddsWhere old new command (λ line. EachStory (Stands tells world disks) (λ session commands. HasRoom session commands → P line command session commands)))
+  site_heard place ask asked old new P (Ok done) told = record { line = told.line; is = told.is; lines = told.lines; holds = site_told place ask asked (P told.line) told.holds }
+  site_heard place ask asked old new P (Err why) told = tt
 
   pub site_unheard : (place : ℕ) (ask : SiteAsk) → EachStory (Recalls world) (λ session commands. AsksSite place ask command session (story_in session commands))
-      → (P : WorldErr → OfCommand) (r : Result Heard WorldErr) → IfErr r (λ why. EachSiteAsk (Stands tells world disks) place ask (P why))
+      → {T : Type 0} (P : WorldErr → OfCommand) (r : Result T WorldErr) → IfErr r (λ why. EachSiteAsk (Stands tells world disks) place ask (P why))
       → IfErr r (λ why. EachStory (Stands tells world disks) (λ session commands. HasRoom session commands → P why command session commands))
-  site_unheard place ask asked P (Ok heard) told = tt
+  site_unheard place ask asked P (Ok done) told = tt
   site_unheard place ask asked P (Err why) told = site_told place ask asked (P why) told
 
   -- so is the coordinator's
   pub coord_heard : (ask : CoordAsk) → EachStory (Recalls world) (λ session commands. AsksCoordinator ask command session (story_in session commands))
-      → (P : Heard → OfCommand) (r : Result Heard WorldErr) → IfOk r (λ heard. EachCoordAsk (Stands tells world disks) ask (P heard))
-      → IfOk r (λ heard. EachStory (Stands tells world disks) (λ session commands. HasRoom session commands → P heard command session commands))
-  coord_heard ask asked P (Ok heard) told = coord_told ask asked (P heard) told
-  coord_heard ask asked P (Err why) told = tt
+      → {T : Type 0} (old new : List Line) (P : Line → OfCommand) (r : Result T WorldErr) → OnOk r (AddsWhere old new command (λ line. EachCoordAsk (Stands tells world disks) ask (P line)))
+      → OnOk r (AddsWhere old new command (λ line. EachStory (Stands tells world disks) (λ session commands. HasRoom session commands → P line command session commands)))
+  coord_heard ask asked old new P (Ok done) told = record { line = told.line; is = told.is; lines = told.lines; holds = coord_told ask asked (P told.line) told.holds }
+  coord_heard ask asked old new P (Err why) told = tt
 
   pub coord_unheard : (ask : CoordAsk) → EachStory (Recalls world) (λ session commands. AsksCoordinator ask command session (story_in session commands))
-      → (P : WorldErr → OfCommand) (r : Result Heard WorldErr) → IfErr r (λ why. EachCoordAsk (Stands tells world disks) ask (P why))
+      → {T : Type 0} (P : WorldErr → OfCommand) (r : Result T WorldErr) → IfErr r (λ why. EachCoordAsk (Stands tells world disks) ask (P why))
       → IfErr r (λ why. EachStory (Stands tells world disks) (λ session commands. HasRoom session commands → P why command session commands))
-  coord_unheard ask asked P (Ok heard) told = tt
+  coord_unheard ask asked P (Ok done) told = tt
   coord_unheard ask asked P (Err why) told = coord_told ask asked (P why) told

@@ -10,6 +10,7 @@ use Rattle.mdb_base.proofs.ForCallers.{length-option}
 use Rattle.order_laws.specs.Chains.{In}
 use Rattle.fed_rules.specs.declared.answers.Answer.{Answer}
 use Rattle.fed_rules.specs.declared.commands.Command.{Command}
+use Rattle.fed_rules.specs.declared.commands.Line.{Line}
 use Rattle.fed_rules.specs.declared.commands.Place.{Place}
 use Rattle.fed_rules.specs.declared.events.CoordEvent.{CoordEvent}
 use Rattle.fed_rules.specs.declared.events.CoordStep.{CoordStep}
@@ -43,7 +44,6 @@ use Rattle.fed_rules.specs.OwnPrograms.{OwnPrograms}
 use Rattle.fed_rules.specs.Sessions.{Session}
 use Rattle.session_routes.specs.declared.traffic.Traffic.{Traffic}
 use Rattle.session_routes.specs.Posting.{ArePosted, AreSameTraffic, message_to, places_to}
-use Rattle.fed_world.specs.declared.heard.Heard.{Heard}
 use Rattle.fed_world.specs.Seats.{SitesAt}
 use Rattle.fed_world.proofs.SeatLines.{Moves, one_message, sites_told}
 use Rattle.fed_world.proofs.SentPlaces.{sent_places}
@@ -190,10 +190,10 @@ module _ (tells : Bool) (world : World) (disks : List Seen) (session : Session) 
         holds = can_ask_coord ask session.plan (global_program session.plan) (coord_past (story_in session commands)) asks.from;
       }
 
-      pub coord_hears : Begins session → (now : List Seen) (next : World) (roomed : List Traffic) (step : CoordStep) (heard : Heard) → now ≡ slice_set disks 0 new → IsPostedTo world next roomed step.sends
+      pub coord_hears : Begins session → (now : List Seen) (next : World) (roomed : List Traffic) (step : CoordStep) (line : Line) → now ≡ slice_set disks 0 new → IsPostedTo world next roomed step.sends
           → Manager.Serves (Manager.Stands policy_is tells next.cores.coordinator new) step (terms_of session.plan) (global_program session.plan) (coord_past (story_in session commands)) asked
-          → IsRising (λ (z : Sent). z.site.0) step.sends → heard.answer ≡ step.answer → heard.sends ≡ places_to step.sends roomed → IsHeard tells next now heard command session commands
-      coord_hears begins now next roomed step heard is put s rises said places = subst (λ (ds : List Seen). IsHeard tells next ds heard command session commands) (sym is) (record {
+          → IsRising (λ (z : Sent). z.site.0) step.sends → line.answer ≡ step.answer → line.sends ≡ places_to step.sends roomed → IsHeard tells next now line command session commands
+      coord_hears begins now next roomed step line is put s rises said places = subst (λ (ds : List Seen). IsHeard tells next ds line command session commands) (sym is) (record {
         answer = subst (λ (a : Answer). IsAnswer (protocols session.plan) story (happens session.plan story command) a) (sym said)
             (subst (λ (h : Happened). IsAnswer (protocols session.plan) story h step.answer) (sym asks.happens) (right_answer K session story (global_program session.plan) step asked s));
         sends = places ∙ (sent_places (λ (site : SiteId). length (sent_to site story)) roomed step.sends channels_rise rises counts among
@@ -246,12 +246,12 @@ module _ (tells : Bool) (world : World) (disks : List Seen) (session : Session) 
               (λ dbms home programs past k. k) put.posted.count
               (λ p a b ea eb. (let x = put.posted.each p a b ea eb in (x.site, x.to ∙ ap (λ (ms : List ToSite). a.to.items ++ ms) (messages a.site), x.from))))
 
-      pub hears_told : Begins session → (now : List Seen) (next : World) (roomed : List Traffic) (sends : List Sent) (step : CoordStep) (heard : Heard) → now ≡ slice_set disks 0 new → IsPostedTo world next roomed sends → sends ≡ step.sends
+      pub hears_told : Begins session → (now : List Seen) (next : World) (roomed : List Traffic) (sends : List Sent) (step : CoordStep) (line : Line) → now ≡ slice_set disks 0 new → IsPostedTo world next roomed sends → sends ≡ step.sends
           → EachManaged (Manager.Stands policy_is tells world.cores.coordinator old) (λ terms programs past. CanAsk ask terms programs past
           → Manager.Serves (Manager.Stands policy_is tells next.cores.coordinator new) step terms programs past (coord_request ask terms programs past))
-          → IsRising (λ (z : Sent). z.site.0) step.sends → heard.answer ≡ step.answer → heard.sends ≡ places_to sends roomed → IsHeard tells next now heard command session commands
-      hears_told begins now next roomed sends step heard is put same served rises said places =
-          coord_hears begins now next roomed step heard is (subst (λ (xs : List Sent). IsPostedTo world next roomed xs) same put)
+          → IsRising (λ (z : Sent). z.site.0) step.sends → line.answer ≡ step.answer → line.sends ≡ places_to sends roomed → IsHeard tells next now line command session commands
+      hears_told begins now next roomed sends step line is put same served rises said places =
+          coord_hears begins now next roomed step line is (subst (λ (xs : List Sent). IsPostedTo world next roomed xs) same put)
           (served (terms_of session.plan) (global_program session.plan) (coord_past (story_in session commands)) coordinator_at (can_ask_coord ask session.plan (global_program session.plan) (coord_past (story_in session commands)) asks.from))
           rises said (places ∙ ap (λ (xs : List Sent). places_to xs roomed) same)
 

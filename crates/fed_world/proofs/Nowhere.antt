@@ -4,6 +4,7 @@ use Rattle.std.proofs.lemmas.List.{append-nil}
 use Rattle.mdb_base.specs.declared.names.SiteId.{SiteId}
 use Rattle.fed_rules.specs.declared.answers.Answer.TheVariants as Say
 use Rattle.fed_rules.specs.declared.commands.Command.{Command}
+use Rattle.fed_rules.specs.declared.commands.Line.{Line}
 use Rattle.fed_rules.specs.declared.messages.FromSite.{FromSite}
 use Rattle.fed_rules.specs.declared.messages.ToSite.{ToSite}
 use Rattle.fed_rules.specs.CoordPast.{CoordPast}
@@ -18,13 +19,13 @@ use Rattle.journal_disk.specs.Disk.{Seen}
 use Rattle.local_dbms.specs.Stands.{OwnPrograms}
 use Rattle.session_report.specs.declared.marks.Marks.{Marks}
 use Rattle.session_routes.specs.declared.traffic.Traffic.{Traffic}
-use Rattle.fed_world.specs.declared.heard.Heard.{Heard}
 use Rattle.fed_world.specs.SeatParts.{PartAt}
 use Rattle.fed_world.specs.Seats.{AreFew, OfDbms}
 use Rattle.fed_world.specs.declared.cores.Cores.{Cores}
 use Rattle.fed_world.specs.declared.world.World.{World}
 use Rattle.fed_world.specs.Asks.{terms_of}
-use Rattle.fed_world.specs.Worlds.{ActorsAt, ActorsStand, IsHeard, OfManager}
+use Rattle.fed_world.specs.Worlds.{ActorsAt, ActorsStand, HasActorsOf, IsHeard, OfManager}
+use Rattle.fed_world.proofs.Broken.{same_actors}
 
 -- the same pasts and messages
 pub record IsSameStory (old new : Story) : Type 0 where
@@ -93,11 +94,11 @@ actors_stay tells world disks session commands command is s =
     }
 
 -- and it is answered by none
-pub nobody_hears : (tells : Bool) (world : World) (disks : List Seen) (heard : Heard) (session : Session) (commands : List Command) (command : Command)
-    → happens session.plan (story_in session commands) command ≡ Nowhere Say.None → heard.answer ≡ Say.None → heard.sends ≡ []
-    → ActorsStand tells world disks session commands → IsHeard tells world disks heard command session commands
-nobody_hears tells world disks heard session commands command is answer sends s = record {
-  answer = subst (λ (h : Happened). IsAnswer (protocols session.plan) (story_in session commands) h heard.answer) (sym is) answer;
+pub nobody_hears : (tells : Bool) (world next : World) (disks : List Seen) (line : Line) (session : Session) (commands : List Command) (command : Command)
+    → happens session.plan (story_in session commands) command ≡ Nowhere Say.None → line.answer ≡ Say.None → line.sends ≡ []
+    → HasActorsOf world next → ActorsStand tells world disks session commands → IsHeard tells next disks line command session commands
+nobody_hears tells world next disks line session commands command is answer sends same s = record {
+  answer = subst (λ (h : Happened). IsAnswer (protocols session.plan) (story_in session commands) h line.answer) (sym is) answer;
   sends = sends ∙ sym (ap (places_of (story_in session commands)) is);
-  next = actors_stay tells world disks session commands command is s;
+  next = same_actors tells world next disks session (command ∷ commands) same (actors_stay tells world disks session commands command is s);
 }

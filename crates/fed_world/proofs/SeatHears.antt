@@ -3,6 +3,7 @@ use Rattle.std.proofs.Common.{◌≡◌, ℕ, List, [], ◌∷◌, ◌++◌, len
 use Rattle.std.proofs.lemmas.Bool.{cond-false, le-ltb}
 use Rattle.std.proofs.lemmas.List.{append_assoc, append-nil, reverse-reverse, length-reverse}
 use Rattle.mdb_base.specs.declared.names.SiteId.{SiteId}
+use Rattle.fed_rules.specs.declared.commands.Line.{Line}
 use Rattle.fed_rules.specs.declared.commands.Place.{Place}
 use Rattle.fed_rules.specs.declared.events.SiteEvent.{SiteEvent}
 use Rattle.fed_rules.specs.declared.events.SiteStep.{SiteStep}
@@ -22,7 +23,6 @@ use Rattle.session_report.specs.Marks.{kept_marks, new_marks}
 use Rattle.session_report.proofs.ForCallers.{line_marks_one}
 use Rattle.fed_world.proofs.MarkedSeats.{going_marked}
 use Rattle.session_routes.specs.declared.traffic.Traffic.{Traffic}
-use Rattle.fed_world.specs.declared.heard.Heard.{Heard}
 use Rattle.fed_world.specs.SeatParts.{PartAt, PartHears}
 
 -- a journal that didn't grow adds no mark
@@ -57,10 +57,10 @@ pub record Sets (step : SiteStep) (old traffic : Traffic) (sends : List Place) :
 
 module _ (K L : Home → OwnPrograms → SitePast → Type 0) (step : SiteStep) (home : Home) (programs : OwnPrograms) (past : SitePast) (first : List Mark) (to : List ToSite) (from : List FromSite) (r : Request SiteEvent) where
   -- the seat behind the line
-  pub seat_hears : (heard : Heard) (own marks : Marks) (old traffic : Traffic) → PartAt K own old home programs past first to from → Tells L step home programs past r
-      → heard.answer ≡ step.answer → marks.site ≡ own.site → first ++ marks.kept.items ≡ kept_marks home (past_behind home past r) → Sets step old traffic heard.sends
-      → PartHears L heard marks traffic home programs past first to from r
-  seat_hears heard own marks old traffic p t answer named marked s = record {
+  pub seat_hears : (line : Line) (own marks : Marks) (old traffic : Traffic) → PartAt K own old home programs past first to from → Tells L step home programs past r
+      → line.answer ≡ step.answer → marks.site ≡ own.site → first ++ marks.kept.items ≡ kept_marks home (past_behind home past r) → Sets step old traffic line.sends
+      → PartHears L line marks traffic home programs past first to from r
+  seat_hears line own marks old traffic p t answer named marked s = record {
     said = answer ∙ t.said;
     places = s.places ∙ (ap₂ (λ (n : ℕ) (ms : List FromSite). place_from old.site n ms) (ap (λ (ms : List FromSite). length ms) p.from) t.sent
         ∙ ap (λ (site : SiteId). place_from site (length from) (sends_of home past r)) p.site);

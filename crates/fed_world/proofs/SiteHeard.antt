@@ -7,6 +7,7 @@ use Rattle.mdb_base.specs.Rising.{IsRising}
 use Rattle.mdb_base.proofs.ForCallers.{some_parts}
 use Rattle.record_fields.specs.Named.{IsSite}
 use Rattle.fed_rules.specs.declared.commands.Command.{Command}
+use Rattle.fed_rules.specs.declared.commands.Line.{Line}
 use Rattle.fed_rules.specs.declared.answers.Answer.{Answer}
 use Rattle.fed_rules.specs.declared.events.SiteEvent.{SiteEvent}
 use Rattle.fed_rules.specs.declared.messages.FromSite.{FromSite}
@@ -38,7 +39,6 @@ use Rattle.local_dbms.specs.Stands as Dbms
 use Rattle.local_dbms.specs.Stands.{OwnPrograms, sends_of}
 use Rattle.session_report.specs.declared.marks.Marks.{Marks}
 use Rattle.session_routes.specs.declared.traffic.Traffic.{Traffic}
-use Rattle.fed_world.specs.declared.heard.Heard.{Heard}
 use Rattle.fed_world.specs.SeatParts.{PartAt, PartFails, PartHears}
 use Rattle.fed_world.proofs.SeatLines.{Frame, sites_hear}
 use Rattle.session_routes.proofs.ForCallers.{get_put}
@@ -177,11 +177,11 @@ module _ (tells : Bool) (world : World) (disks : List Seen) (session : Session) 
       others = others_empty;
     }
 
-    pub site_hears : (now : List Seen) (next : World) (heard : Heard) (dbms : LocalDbms AnyEngine) (own : Marks) (traffic : Traffic) → now ≡ slice_set disks asks.home.site.0 new → IsPut world next place dbms own traffic
-        → PartHears (Dbms.Stands Engines.Stands tells dbms new) heard own traffic asks.home (programs_at session asks.home.site) (past_of asks.home.site (story_in session commands))
-        (first_marks session asks.home) (sent_to asks.home.site (story_in session commands)) (sent_from asks.home.site (story_in session commands)) asked → IsHeard tells next now heard command session commands
-    site_hears now next heard dbms own traffic is put p = subst (λ (ds : List Seen). IsHeard tells next ds heard command session commands) (sym is) (record {
-      answer = subst (λ (h : Happened). IsAnswer (protocols session.plan) story h heard.answer) (sym asks.happens) (right_answer session home story asked heard.answer p.said);
+    pub site_hears : (now : List Seen) (next : World) (line : Line) (dbms : LocalDbms AnyEngine) (own : Marks) (traffic : Traffic) → now ≡ slice_set disks asks.home.site.0 new → IsPut world next place dbms own traffic
+        → PartHears (Dbms.Stands Engines.Stands tells dbms new) line own traffic asks.home (programs_at session asks.home.site) (past_of asks.home.site (story_in session commands))
+        (first_marks session asks.home) (sent_to asks.home.site (story_in session commands)) (sent_from asks.home.site (story_in session commands)) asked → IsHeard tells next now line command session commands
+    site_hears now next line dbms own traffic is put p = subst (λ (ds : List Seen). IsHeard tells next ds line command session commands) (sym is) (record {
+      answer = subst (λ (h : Happened). IsAnswer (protocols session.plan) story h line.answer) (sym asks.happens) (right_answer session home story asked line.answer p.said);
       sends = p.places ∙ (right_places home story asked ∙ ap (λ (h : Happened). places_of story h) (sym asks.happens));
       next = next_stands next dbms own traffic put p.next;
     })
@@ -285,12 +285,12 @@ module _ (tells : Bool) (world : World) (disks : List Seen) (session : Session) 
       behind_is : now ≡ slice_set disks asks.home.site.0 new
       behind_is = is ∙ ap (λ (z : SiteId). slice_set disks z.0 new) named
 
-      pub hears_from : (heard : Heard)
+      pub hears_from : (line : Line)
           → Dbms.Each_site (Dbms.Stands Engines.Stands tells dbms old) (λ home programs past. CanAsk ask home programs past → (first : List Mark) (to : List ToSite) (from : List FromSite) → PartAt (Dbms.Stands Engines.Stands tells dbms old) own channel home programs past first to from
-          → PartHears (Dbms.Stands Engines.Stands tells core new) heard kept traffic home programs past first to from (site_request ask home programs past))
-          → IsHeard tells next now heard command session commands
-      hears_from heard served =
-          site_hears place ask command asks old new own_disk now next heard core kept traffic behind_is put
+          → PartHears (Dbms.Stands Engines.Stands tells core new) line kept traffic home programs past first to from (site_request ask home programs past))
+          → IsHeard tells next now line command session commands
+      hears_from line served =
+          site_hears place ask command asks old new own_disk now next line core kept traffic behind_is put
           (served asks.home (programs_at session asks.home.site) (past_of asks.home.site (story_in session commands)) own_part.dbms (may_ask begins room) _ _ _ own_part)
 
       pub fails_from : (why : StepErr) (told : WorldErr) → told ≡ error_of channel.site.0 why

@@ -1,5 +1,5 @@
 -- When lines are right: each one's answer and places are those of the story of the commands before it.
-use Rattle.std.specs.Prelude.{◌≡◌, List, [], ◌∷◌, map, reverse}
+use Rattle.std.specs.Prelude.{◌≡◌, List, [], ◌∷◌, ◌++◌, map, reverse}
 use Rattle.fed_rules.specs.declared.commands.Command.{Command}
 use Rattle.fed_rules.specs.declared.commands.Line.{Line}
 use Rattle.fed_rules.specs.Right.{IsNext}
@@ -19,3 +19,10 @@ IsRightIn session (line ∷ lines) = IsRightIn session lines × IsNext session.p
 pub record AreLinesIn (lines : List Line) (session : Session) (commands : List Command) : Type 0 where
   pub commands_are : map (λ line. line.command) (reverse lines) ≡ commands
   pub right : IsRightIn session (reverse lines)
+
+-- the lines made before stay as they are, and behind them stands one of the command, of which this holds
+pub record AddsWhere (old new : List Line) (command : Command) (P : Line → Type 0) : Type 0 where
+  pub line : Line
+  pub is : line.command ≡ command
+  pub lines : new ≡ old ++ line ∷ []
+  pub holds : P line

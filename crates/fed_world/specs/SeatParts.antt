@@ -1,5 +1,6 @@
 -- What a world keeps of one site: its local database system, the marks of its records, and its messages.
 use Rattle.std.specs.Prelude.{◌≡◌, List, ◌++◌, length}
+use Rattle.fed_rules.specs.declared.commands.Line.{Line}
 use Rattle.fed_rules.specs.declared.events.SiteEvent.{SiteEvent}
 use Rattle.fed_rules.specs.declared.messages.FromSite.{FromSite}
 use Rattle.fed_rules.specs.declared.messages.ToSite.{ToSite}
@@ -15,7 +16,6 @@ use Rattle.local_dbms.specs.Stands.{Each_site, Fails, OwnPrograms, sends_of}
 use Rattle.session_report.specs.declared.marks.Mark.{Mark}
 use Rattle.session_report.specs.declared.marks.Marks.{Marks}
 use Rattle.session_report.specs.Marks.{kept_marks}
-use Rattle.fed_world.specs.declared.heard.Heard.{Heard}
 use Rattle.session_routes.specs.declared.traffic.Traffic.{Traffic}
 
 -- the site stands for its past, the marks are those of its records behind the first ones, and these are its messages
@@ -27,10 +27,10 @@ pub record PartAt (K : Home → OwnPrograms → SitePast → Type 0) (own : Mark
   pub to : traffic.to.items ≡ sent
   pub from : traffic.from.items ≡ back
 
--- a request is answered, what it sends is numbered behind what was sent, and the site stands for what it leaves
-pub record PartHears (K : Home → OwnPrograms → SitePast → Type 0) (heard : Heard) (marks : Marks) (traffic : Traffic) (home : Home) (programs : OwnPrograms) (past : SitePast) (first : List Mark) (to : List ToSite) (from : List FromSite) (r : Request SiteEvent) : Type 0 where
-  pub said : heard.answer ≡ answer_to home past r
-  pub places : heard.sends ≡ place_from home.site (length from) (sends_of home past r)
+-- a request is answered in the line, what it sends is numbered behind what was sent, and the site stands for what it leaves
+pub record PartHears (K : Home → OwnPrograms → SitePast → Type 0) (line : Line) (marks : Marks) (traffic : Traffic) (home : Home) (programs : OwnPrograms) (past : SitePast) (first : List Mark) (to : List ToSite) (from : List FromSite) (r : Request SiteEvent) : Type 0 where
+  pub said : line.answer ≡ answer_to home past r
+  pub places : line.sends ≡ place_from home.site (length from) (sends_of home past r)
   pub next : PartAt K marks traffic home programs (past_behind home past r) first to (from ++ sends_of home past r)
 
 -- what isn't heard: want of memory changes nothing, and a failed disk call only the local database system
@@ -44,11 +44,11 @@ pub record PartFails (K : Home → OwnPrograms → SitePast → Type 0) (why : S
 
 -- what comes of what is asked: the system stood for this before, with these marks and messages, and stands for that after, with those
 module _ (before : Home → OwnPrograms → SitePast → Type 0) (own : Marks) (traffic : Traffic) (after : Home → OwnPrograms → SitePast → Type 0) (kept : Marks) (carried : Traffic) (ask : SiteAsk) where
-  -- of each past for which it stood, where this may be asked, the request is answered
-  abbrev pub ServesOn : Heard → Type 0
-  ServesOn heard = Each_site before (λ home programs past. CanAsk ask home programs past
+  -- of each past for which it stood, where this may be asked, the request is answered in the line
+  abbrev pub ServesOn : Line → Type 0
+  ServesOn line = Each_site before (λ home programs past. CanAsk ask home programs past
       → (first : List Mark) (to : List ToSite) (from : List FromSite) → PartAt before own traffic home programs past first to from
-      → PartHears after heard kept carried home programs past first to from (site_request ask home programs past))
+      → PartHears after line kept carried home programs past first to from (site_request ask home programs past))
 
   -- of each such past it isn't, for this reason
   abbrev pub FailsOn : StepErr → Type 0

@@ -28,7 +28,6 @@ use Rattle.local_dbms.specs.declared.asks.SiteAsk.{SiteAsk}
 use Rattle.local_dbms.specs.declared.dbms.LocalDbms.{LocalDbms}
 use Rattle.local_dbms.specs.Stands as Dbms
 use Rattle.local_dbms.specs.Stands.{OwnPrograms}
-use Rattle.fed_world.specs.declared.heard.Heard.{Heard}
 use Rattle.fed_world.specs.declared.cores.Cores.{Cores}
 use Rattle.fed_world.specs.declared.errors.WorldErr.{WorldErr}
 use Rattle.fed_world.specs.declared.errors.WorldErr.TheVariants as Err_is
@@ -254,10 +253,10 @@ pub record AddsLine (old new : World) (command : Command) : Type 0 where
   pub is : line.command ≡ command
   pub lines : lines_of new ≡ lines_of old ++ line ∷ []
 
--- what is heard is the answer of the line that the command becomes with its places, and the actors stand for the command too
-pub record IsHeard (tells : Bool) (world : World) (disks : List Seen) (heard : Heard) (command : Command) (session : Session) (commands : List Command) : Type 0 where
-  pub answer : IsAnswer (protocols session.plan) (story_in session commands) (tell session.plan (story_in session commands) command).happened heard.answer
-  pub sends : heard.sends ≡ places_of (story_in session commands) (tell session.plan (story_in session commands) command).happened
+-- the line has the answer to the command with its places, and the actors stand for the command too
+pub record IsHeard (tells : Bool) (world : World) (disks : List Seen) (line : Line) (command : Command) (session : Session) (commands : List Command) : Type 0 where
+  pub answer : IsAnswer (protocols session.plan) (story_in session commands) (tell session.plan (story_in session commands) command).happened line.answer
+  pub sends : line.sends ≡ places_of (story_in session commands) (tell session.plan (story_in session commands) command).happened
   pub next : ActorsStand tells world disks session (command ∷ commands)
 
 -- what isn't heard: want of memory changes nothing, and a failed disk call breaks an actor
@@ -266,9 +265,8 @@ IsUnheard tells Err_is.Memory world disks command session commands = ActorsStand
 IsUnheard tells (Err_is.Disk number) world disks command session commands =
     ActorBroke number tells world disks command session (story_in session commands) × AreDisks disks session
 
--- the rest of a world stays
-pub record KeepsLines (old new : World) : Type 0 where
-  pub lines : new.lines ≡ old.lines
+-- what a world has beside its actors and its lines stays
+pub record KeepsRest (old new : World) : Type 0 where
   pub broken : new.broken ≡ old.broken
   pub routes : new.routes ≡ old.routes
   pub scenario : new.cores.scenario ≡ old.cores.scenario

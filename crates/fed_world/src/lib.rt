@@ -10,7 +10,6 @@ mod found_begun;
 mod found_reporting;
 mod found_sites;
 mod gathering;
-mod heard;
 mod hearing;
 mod reading;
 mod reopening;

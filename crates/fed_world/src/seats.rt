@@ -1,16 +1,16 @@
 //! What a site hears, with what the world keeps of it.
-ghost use Rattle.std.specs.Prelude.{◌<◌, ◌^◌, ◌≡◌, ◌++◌, IsSome, IsTrue, IfOk, IfErr, OnOk, length, option_to_list, true, vec_len, vec_capacity};
+ghost use Rattle.std.specs.Prelude.{◌<◌, ◌^◌, ◌≡◌, ◌++◌, IsSome, IsTrue, IfErr, OnErr, OnOk, length, option_to_list, true, vec_len, vec_capacity};
 ghost use Rattle.mdb_base.specs.Counts.{HasCauseOf};
 ghost use Rattle.any_engine.specs.Stands as Engines;
 ghost use Rattle.fed_rules.specs.Story.{place_from};
 ghost use Rattle.local_dbms.specs.Asks.{CanAsk, can_send};
 ghost use Rattle.local_dbms.specs.Stands as Dbms;
 ghost use Rattle.local_dbms.specs.Stands.{Some_site};
+ghost use Rattle.fed_world.specs.Lines.{AddsWhere};
 ghost use Rattle.fed_world.specs.SeatParts.{FailsOn, ServesOn};
 
-use crate::heard::Heard;
 use any_engine::AnyEngine;
-use fed_rules::{FromSite, Place, Places};
+use fed_rules::{Command, FromSite, Line, Place, Places};
 use journal_disk::Disk;
 use local_dbms::{LocalDbms, SiteAsk, StepErr};
 use mdb_base::Memory;
@@ -59,20 +59,24 @@ fn post(traffic: &mut Traffic, send: Option<FromSite>) -> Places
     })
 }
 
-/// A site is told what is asked of it. The record that it adds is marked, and the message that it sends is put behind those that it sent.
-/// Room is made before.
-pub fn tell_seat<D: Disk>(
+/// A site is told what a command asks of it. The record that it adds is marked, the message that it sends is put behind those that it sent,
+/// and the line behind the others, where there is room. Other room is made before.
+pub(crate) fn tell_seat<D: Disk>(
     dbms: &mut LocalDbms<AnyEngine>,
     marks: &mut Marks,
     traffic: &mut Traffic,
+    lines: &mut Vec<Line>,
     alloc: Global,
     disk: &mut D,
+    command: Command,
     ask: SiteAsk,
-) -> Result<Heard, StepErr>
+) -> Result<(), StepErr>
     requires told { IsTrue D.tells }
     requires stood { Some_site (Dbms.Stands Engines.Stands D.tells dbms.old (D.seen disk.old)) (CanAsk ask) }
     requires few { length traffic.old.from.items < 2 ^ 32 }
-    ensures served { IfOk result (ServesOn (Dbms.Stands Engines.Stands D.tells dbms.old (D.seen disk.old)) marks.old traffic.old (Dbms.Stands Engines.Stands D.tells dbms.new (D.seen disk.new)) marks.new traffic.new ask) }
+    requires room { vec_len lines.old < vec_capacity lines.old }
+    ensures served { OnOk result (AddsWhere lines.old.items lines.new.items command (ServesOn (Dbms.Stands Engines.Stands D.tells dbms.old (D.seen disk.old)) marks.old traffic.old (Dbms.Stands Engines.Stands D.tells dbms.new (D.seen disk.new)) marks.new traffic.new ask)) }
+    ensures kept { OnErr result (lines.new.items ≡ lines.old.items) }
     ensures failed { IfErr result (FailsOn (Dbms.Stands Engines.Stands D.tells dbms.old (D.seen disk.old)) marks.old traffic.old (Dbms.Stands Engines.Stands D.tells dbms.new (D.seen disk.new)) marks.new traffic.new ask) }
     ensures cause { HasCauseOf StepErr.Disk (D.seen disk.old).faults (D.seen disk.new).faults result }
 {
@@ -85,8 +89,10 @@ pub fn tell_seat<D: Disk>(
     let before = dbms.core().records().len();
     let step = dbms.ask(alloc, disk, ask)?;
     marks.note_line(before, dbms.core().records());
-    Ok(Heard {
+    lines.push_reserved(Line {
+        command,
         answer: step.answer,
         sends: post(traffic, step.sends),
-    })
+    });
+    Ok(())
 }

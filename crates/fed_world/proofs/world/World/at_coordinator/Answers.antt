@@ -1,5 +1,6 @@
 use Rattle.std.proofs.Common.{◌∙◌, map, slice_set, refl, sym, subst, arith, rules}
 use Rattle.std.proofs.lemmas.List.{length-map}
+use Rattle.fed_rules.specs.declared.commands.Line.{Line}
 use Rattle.fed_world.specs.declared.errors.WorldErr.{WorldErr}
 use Rattle.fed_world.specs.Faults.{FailedAs}
 use Rattle.fed_world.proofs.CoordHeard.{fails_told, few_messages, first_disk, hears_told, may_ask_coord, roomed_stands}
@@ -12,8 +13,11 @@ pub returns-in_default-clause-failed : goal.returns-in_default-clause-failed
 returns-in_default-clause-failed g c session commands command s asks room =
     roomed_stands g.D.Disk.tells c.args.self.now (map g.D.Disk.seen c.args.disks.now.items) session commands s.stand _ refl (record { cores_are = refl; marks_are = refl; channels_are = c.make_room.ensures.same })
 
+pub returns-in_default-clause-kept : goal.returns-in_default-clause-kept
+returns-in_default-clause-kept g c = refl
+
 pub returns-in_default-clause-keeps : goal.returns-in_default-clause-keeps
-returns-in_default-clause-keeps g c = record { lines = refl; broken = refl; routes = refl; scenario = refl; begun = refl }
+returns-in_default-clause-keeps g c = record { broken = refl; routes = refl; scenario = refl; begun = refl }
 
 pub returns-in_default-clause-cause : goal.returns-in_default-clause-cause
 returns-in_default-clause-cause g c = refl
@@ -22,8 +26,11 @@ pub returns-in_default-reserve-clause-failed : goal.returns-in_default-reserve-c
 returns-in_default-reserve-clause-failed g c session commands command s asks room =
     roomed_stands g.D.Disk.tells c.args.self.now (map g.D.Disk.seen c.args.disks.now.items) session commands s.stand _ refl (record { cores_are = refl; marks_are = refl; channels_are = c.make_room.ensures.same })
 
+pub returns-in_default-reserve-clause-kept : goal.returns-in_default-reserve-clause-kept
+returns-in_default-reserve-clause-kept g c = refl
+
 pub returns-in_default-reserve-clause-keeps : goal.returns-in_default-reserve-clause-keeps
-returns-in_default-reserve-clause-keeps g c = record { lines = refl; broken = refl; routes = refl; scenario = refl; begun = refl }
+returns-in_default-reserve-clause-keeps g c = record { broken = refl; routes = refl; scenario = refl; begun = refl }
 
 pub returns-in_default-reserve-clause-cause : goal.returns-in_default-reserve-clause-cause
 returns-in_default-reserve-clause-cause g c = refl
@@ -66,15 +73,25 @@ post-requires-clause-few g c =
 pub as_slice-requires : goal.as_slice-requires
 as_slice-requires g c = search rules
 
+pub push_reserved-requires : goal.push_reserved-requires
+push_reserved-requires g c = c.requires.room
+
 pub returns-in-Ok-ask-clause-heard : goal.returns-in-Ok-ask-clause-heard
-returns-in-Ok-ask-clause-heard g c session commands command s asks room =
-    let at = first_disk g.D.Disk.seen c.args.disks.now.items c.index_mut.result.now session s.stand.others c.index_mut.ensures.value in
-    hears_told g.D.Disk.tells c.args.self.now (map g.D.Disk.seen c.args.disks.now.items) session commands s.stand (g.D.Disk.seen c.index_mut.result.now) (g.D.Disk.seen c.ask.new.disk) at c.args.ask command asks
-    s.has.begins _ _ c.make_room.new.traffic.items c.as_slice.result.now c.in-Ok-ask.step _ (seen_put g.D.Disk.seen c.args.disks.now.items 0 c.ask.new.disk)
-    (record { cores_are = refl; marks_are = refl; room = c.make_room.ensures.same; posted = c.post.ensures.posted }) c.as_slice.ensures.items c.in-Ok-ask.ensures.served c.as_slice.ensures.rising refl (c.taken.ensures.taken ∙ c.post.ensures.places)
+returns-in-Ok-ask-clause-heard g c =
+    let line : Line = record { command = c.args.command; answer = c.in-Ok-ask.step.answer; sends = c.taken.result } in
+    record {
+      line = line;
+      is = refl;
+      lines = c.push_reserved.ensures.items;
+      holds = λ session commands command s asks room.
+          let at = first_disk g.D.Disk.seen c.args.disks.now.items c.index_mut.result.now session s.stand.others c.index_mut.ensures.value in
+          hears_told g.D.Disk.tells c.args.self.now (map g.D.Disk.seen c.args.disks.now.items) session commands s.stand (g.D.Disk.seen c.index_mut.result.now) (g.D.Disk.seen c.ask.new.disk) at c.args.ask command asks
+          s.has.begins _ _ c.make_room.new.traffic.items c.as_slice.result.now c.in-Ok-ask.step line (seen_put g.D.Disk.seen c.args.disks.now.items 0 c.ask.new.disk)
+          (record { cores_are = refl; marks_are = refl; room = c.make_room.ensures.same; posted = c.post.ensures.posted }) c.as_slice.ensures.items c.in-Ok-ask.ensures.served c.as_slice.ensures.rising refl (c.taken.ensures.taken ∙ c.post.ensures.places);
+    }
 
 pub returns-in-Ok-ask-clause-keeps : goal.returns-in-Ok-ask-clause-keeps
-returns-in-Ok-ask-clause-keeps g c = record { lines = refl; broken = refl; routes = refl; scenario = refl; begun = refl }
+returns-in-Ok-ask-clause-keeps g c = record { broken = refl; routes = refl; scenario = refl; begun = refl }
 
 pub returns-in-Ok-ask-clause-cause : goal.returns-in-Ok-ask-clause-cause
 returns-in-Ok-ask-clause-cause g c =
@@ -90,8 +107,11 @@ returns-in-Err-clause-failed g c session commands command s asks room =
     c.in-Err.why c.world_err.result _ _ c.world_err.ensures (seen_put g.D.Disk.seen c.args.disks.now.items 0 c.ask.new.disk)
     (record { cores_are = refl; marks_are = refl; channels_are = c.make_room.ensures.same }) c.in-Err.ensures.failed
 
+pub returns-in-Err-clause-kept : goal.returns-in-Err-clause-kept
+returns-in-Err-clause-kept g c = refl
+
 pub returns-in-Err-clause-keeps : goal.returns-in-Err-clause-keeps
-returns-in-Err-clause-keeps g c = record { lines = refl; broken = refl; routes = refl; scenario = refl; begun = refl }
+returns-in-Err-clause-keeps g c = record { broken = refl; routes = refl; scenario = refl; begun = refl }
 
 pub returns-in-Err-clause-cause : goal.returns-in-Err-clause-cause
 returns-in-Err-clause-cause g c =
