@@ -79,10 +79,10 @@ impl World {
     }
 
     /// Who hears of a command, and what it asks.
-    pub(crate) fn asked(&self, command: Command) -> Asked
-        ensures { EachStory (Recalls self.now) (λ session commands. IsAsked result command session (story_in session commands)) }
+    pub(crate) fn asked(&self, command: &Command) -> Asked
+        ensures { EachStory (Recalls self.now) (λ session commands. IsAsked result command.now session (story_in session commands)) }
     {
-        match command {
+        match *command {
             Command::Begin(tx) => self.of_local(tx, SiteAsk::Begin(tx)),
             Command::Step(tx) => self.of_local(tx, SiteAsk::Step(tx)),
             Command::Commit(tx) => self.of_local(tx, SiteAsk::Commit(tx)),

@@ -32,14 +32,14 @@ impl World {
         &mut self,
         alloc: Global,
         disks: &mut Vec<D>,
-        command: Command,
+        command: &Command,
         place: usize,
         ask: SiteAsk,
     ) -> Result<(), WorldErr>
         requires told { IsTrue D.tells }
         requires room { vec_len self.old.lines < vec_capacity self.old.lines }
         requires stood { SomeSiteAsk (Stands D.tells self.old (map D.seen disks.old.items)) place ask }
-        ensures heard { OnOk result (AddsWhere (lines_of self.old) (lines_of self.new) command (λ line. EachSiteAsk (Stands D.tells self.old (map D.seen disks.old.items)) place ask (IsHeard D.tells self.new (map D.seen disks.new.items) line))) }
+        ensures heard { OnOk result (AddsWhere (lines_of self.old) (lines_of self.new) command.now (λ line. EachSiteAsk (Stands D.tells self.old (map D.seen disks.old.items)) place ask (IsHeard D.tells self.new (map D.seen disks.new.items) line))) }
         ensures failed { IfErr result (λ why. EachSiteAsk (Stands D.tells self.old (map D.seen disks.old.items)) place ask (IsUnheard D.tells why self.new (map D.seen disks.new.items))) }
         ensures kept { OnErr result (lines_of self.new ≡ lines_of self.old) }
         ensures keeps { KeepsRest self.old self.new }
@@ -64,19 +64,19 @@ impl World {
     }
 
     /// The coordinator hears what the command asks of it, what it sends is put into the channels, and the line behind the others, where there
-    /// is room. Other room is made before.
+    /// is room. Room for the rest is made before.
     #[tactic(none)]
     fn at_coordinator<D: Disk>(
         &mut self,
         alloc: Global,
         disks: &mut Vec<D>,
-        command: Command,
+        command: &Command,
         ask: CoordAsk,
     ) -> Result<(), WorldErr>
         requires told { IsTrue D.tells }
         requires room { vec_len self.old.lines < vec_capacity self.old.lines }
         requires stood { SomeCoordAsk (Stands D.tells self.old (map D.seen disks.old.items)) ask }
-        ensures heard { OnOk result (AddsWhere (lines_of self.old) (lines_of self.new) command (λ line. EachCoordAsk (Stands D.tells self.old (map D.seen disks.old.items)) ask (IsHeard D.tells self.new (map D.seen disks.new.items) line))) }
+        ensures heard { OnOk result (AddsWhere (lines_of self.old) (lines_of self.new) command.now (λ line. EachCoordAsk (Stands D.tells self.old (map D.seen disks.old.items)) ask (IsHeard D.tells self.new (map D.seen disks.new.items) line))) }
         ensures failed { IfErr result (λ why. EachCoordAsk (Stands D.tells self.old (map D.seen disks.old.items)) ask (IsUnheard D.tells why self.new (map D.seen disks.new.items))) }
         ensures kept { OnErr result (lines_of self.new ≡ lines_of self.old) }
         ensures keeps { KeepsRest self.old self.new }
@@ -93,7 +93,7 @@ impl World {
             Ok(step) => {
                 post(&mut self.traffic, step.sends.as_slice(), &mut self.places);
                 self.lines.push_reserved(Line {
-                    command,
+                    command: *command,
                     answer: step.answer,
                     sends: Places::taken(alloc, &mut self.places),
                 });
@@ -108,13 +108,13 @@ impl World {
         &mut self,
         alloc: Global,
         disks: &mut Vec<D>,
-        command: Command,
+        command: &Command,
     ) -> Result<(), WorldErr>
         requires told { IsTrue D.tells }
         requires room { vec_len self.old.lines < vec_capacity self.old.lines }
         requires stood { SomeStory (Stands D.tells self.old (map D.seen disks.old.items)) HasRoom }
-        ensures heard { OnOk result (AddsWhere (lines_of self.old) (lines_of self.new) command (λ line. EachWhere (Stands D.tells self.old (map D.seen disks.old.items)) HasRoom (IsHeard D.tells self.new (map D.seen disks.new.items) line command))) }
-        ensures failed { IfErr result (λ why. EachWhere (Stands D.tells self.old (map D.seen disks.old.items)) HasRoom (IsUnheard D.tells why self.new (map D.seen disks.new.items) command)) }
+        ensures heard { OnOk result (AddsWhere (lines_of self.old) (lines_of self.new) command.now (λ line. EachWhere (Stands D.tells self.old (map D.seen disks.old.items)) HasRoom (IsHeard D.tells self.new (map D.seen disks.new.items) line command.now))) }
+        ensures failed { IfErr result (λ why. EachWhere (Stands D.tells self.old (map D.seen disks.old.items)) HasRoom (IsUnheard D.tells why self.new (map D.seen disks.new.items) command.now)) }
         ensures kept { OnErr result (lines_of self.new ≡ lines_of self.old) }
         ensures keeps { KeepsRest self.old self.new }
         ensures cause { CountsTell result (map D.seen disks.old.items) (map D.seen disks.new.items) }
@@ -124,7 +124,7 @@ impl World {
             Asked::Coordinator(ask) => self.at_coordinator(alloc, disks, command, ask),
             Asked::Nobody => {
                 self.lines.push_reserved(Line {
-                    command,
+                    command: *command,
                     answer: Answer::None,
                     sends: Places::none(),
                 });

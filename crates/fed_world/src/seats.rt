@@ -60,7 +60,7 @@ fn post(traffic: &mut Traffic, send: Option<FromSite>) -> Places
 }
 
 /// A site is told what a command asks of it. The record that it adds is marked, the message that it sends is put behind those that it sent,
-/// and the line behind the others, where there is room. Other room is made before.
+/// and the line behind the others, where there is room. Room for the rest is made before.
 pub(crate) fn tell_seat<D: Disk>(
     dbms: &mut LocalDbms<AnyEngine>,
     marks: &mut Marks,
@@ -68,14 +68,14 @@ pub(crate) fn tell_seat<D: Disk>(
     lines: &mut Vec<Line>,
     alloc: Global,
     disk: &mut D,
-    command: Command,
+    command: &Command,
     ask: SiteAsk,
 ) -> Result<(), StepErr>
     requires told { IsTrue D.tells }
     requires stood { Some_site (Dbms.Stands Engines.Stands D.tells dbms.old (D.seen disk.old)) (CanAsk ask) }
     requires few { length traffic.old.from.items < 2 ^ 32 }
     requires room { vec_len lines.old < vec_capacity lines.old }
-    ensures served { OnOk result (AddsWhere lines.old.items lines.new.items command (ServesOn (Dbms.Stands Engines.Stands D.tells dbms.old (D.seen disk.old)) marks.old traffic.old (Dbms.Stands Engines.Stands D.tells dbms.new (D.seen disk.new)) marks.new traffic.new ask)) }
+    ensures served { OnOk result (AddsWhere lines.old.items lines.new.items command.now (ServesOn (Dbms.Stands Engines.Stands D.tells dbms.old (D.seen disk.old)) marks.old traffic.old (Dbms.Stands Engines.Stands D.tells dbms.new (D.seen disk.new)) marks.new traffic.new ask)) }
     ensures kept { OnErr result (lines.new.items ≡ lines.old.items) }
     ensures failed { IfErr result (FailsOn (Dbms.Stands Engines.Stands D.tells dbms.old (D.seen disk.old)) marks.old traffic.old (Dbms.Stands Engines.Stands D.tells dbms.new (D.seen disk.new)) marks.new traffic.new ask) }
     ensures cause { HasCauseOf StepErr.Disk (D.seen disk.old).faults (D.seen disk.new).faults result }
@@ -90,7 +90,7 @@ pub(crate) fn tell_seat<D: Disk>(
     let step = dbms.ask(alloc, disk, ask)?;
     marks.note_line(before, dbms.core().records());
     lines.push_reserved(Line {
-        command,
+        command: *command,
         answer: step.answer,
         sends: post(traffic, step.sends),
     });

@@ -57,7 +57,7 @@ impl World {
         let Ok(()) = self.lines.reserve(1) else {
             return Err(WorldErr::Memory);
         };
-        match self.hear(alloc, disks, command) {
+        match self.hear(alloc, disks, &command) {
             Ok(()) => Ok(()),
             Err(WorldErr::Disk { number }) => {
                 self.broken = true;

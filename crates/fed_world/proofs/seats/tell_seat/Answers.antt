@@ -13,7 +13,7 @@ use Rattle.fed_world.proofs.seats.tell_seat.Goals as goal
 
 pub returns-clause-served : goal.returns-clause-served
 returns-clause-served g c =
-    let line : Line = record { command = c.args.command; answer = c.in_ok-step.step.answer; sends = c.post.result } in
+    let line : Line = record { command = c.args.command.now; answer = c.in_ok-step.step.answer; sends = c.post.result } in
     record {
       line = line;
       is = refl;

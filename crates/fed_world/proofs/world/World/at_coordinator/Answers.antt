@@ -78,7 +78,7 @@ push_reserved-requires g c = c.requires.room
 
 pub returns-in-Ok-ask-clause-heard : goal.returns-in-Ok-ask-clause-heard
 returns-in-Ok-ask-clause-heard g c =
-    let line : Line = record { command = c.args.command; answer = c.in-Ok-ask.step.answer; sends = c.taken.result } in
+    let line : Line = record { command = c.args.command.now; answer = c.in-Ok-ask.step.answer; sends = c.taken.result } in
     record {
       line = line;
       is = refl;
