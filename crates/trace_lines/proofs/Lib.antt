@@ -3,6 +3,7 @@ mod Pairs
 mod ParsedNumbers
 mod Named
 mod Pieces
+mod FrontNumbers
 mod Guards
 mod CommandLaws
 mod Replies
@@ -13,6 +14,7 @@ mod Sends
 mod Lines
 mod OneWord
 mod Visible
+mod FrontWords
 mod Spelled
 mod Computed
 mod Determined

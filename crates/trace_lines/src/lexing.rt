@@ -10,15 +10,14 @@ ghost use Rattle.line_text.specs.declared.word.Word.{Word};
 ghost use Rattle.line_text.specs.Words.{place_text, edge_text, word_text};
 
 use crate::error::LineErr;
+use crate::front_words::usual_words;
 use crate::keywords::keyword_of;
 use crate::numbers::site_of;
 use fed_rules::Place;
 use line_text::Word;
 use mdb_base::{Edge, SiteId, Tid, Tx};
 use std::alloc::Global;
-
-/// How many words a line has room for at first: most have no more.
-const WORDS: usize = 12;
+use std::str;
 
 /// Whether a text begins as a number does: with a digit, and with `0` only where that stands alone.
 fn begins_as_number(text: &str) -> bool
@@ -47,7 +46,7 @@ fn numbers_of(text: &str, mark: char) -> Option<(u64, u64)>
     Some((number_of(first)?, number_of(second)?))
 }
 
-fn tid_at(tx: u64, attempt: u64) -> Option<Tid>
+pub fn tid_at(tx: u64, attempt: u64) -> Option<Tid>
     ensures { result ≡ lexing.tid_at (tx, attempt) }
 {
     match (tx, attempt) {
@@ -66,7 +65,7 @@ fn tid_of(text: &str) -> Option<Tid>
     tid_at(tx, attempt)
 }
 
-fn place_at(site: u64, place: u64) -> Option<Place>
+pub fn place_at(site: u64, place: u64) -> Option<Place>
     ensures { result ≡ lexing.place_at (site, place) }
 {
     match (site, place) {
@@ -136,14 +135,29 @@ pub fn word_of(text: &str) -> Option<Word>
     Some(Word::Joined(edge))
 }
 
-/// The words of a text, which stand with one space between each two.
-pub fn words_of(alloc: Global, text: &str) -> Result<Vec<Word>, LineErr>
+/// The words of a text, piece by piece.
+#[inline(never)]
+fn words_by_pieces(alloc: Global, text: &str) -> Result<Vec<Word>, LineErr>
     ensures found { IfOk result (λ words. Each (λ word. IsTrue (is_word word)) words.items × (map word_text words.items ≡ pieces text.now)) }
     ensures none { IsErrOf result LineErr.NoLine → (words : List Word) → Each (λ word. IsTrue (is_word word)) words → map word_text words ≡ pieces text.now → ⊥ }
 {
-    let mut words = Vec::with_capacity(alloc, WORDS)?;
+    let mut words = Vec::new(alloc);
     for word in text.split(' ') {
         words.push(word_of(word).ok_or(LineErr::NoLine)?)?;
     }
     Ok(words)
+}
+
+/// The words of bytes that are text, which stand with one space between each two.
+pub fn words_of(alloc: Global, text: &[u8]) -> Result<Vec<Word>, LineErr>
+    ensures found { IfOk result (λ words. Each (λ word. IsTrue (is_word word)) words.items × (map word_text words.items ≡ pieces text.now)) }
+    ensures none { IsErrOf result LineErr.NoLine → (words : List Word) → Each (λ word. IsTrue (is_word word)) words → map word_text words ≡ pieces text.now → ⊥ }
+{
+    if let Some(words) = usual_words(alloc, text)? {
+        return Ok(words);
+    }
+    let Ok(text) = str::from_utf8(text) else {
+        return Err(LineErr::NoLine);
+    };
+    words_by_pieces(alloc, text)
 }

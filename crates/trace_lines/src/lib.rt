@@ -16,6 +16,9 @@ mod answers;
 mod commands;
 mod error;
 mod fits;
+mod front_keywords;
+mod front_words;
+mod fronts;
 mod keywords;
 mod lexing;
 mod marks;
@@ -27,7 +30,6 @@ pub use fed_rules::{Answer, Cause, Command, Line, Place, Places, Stamped, Stampe
 pub use line_text::{DoorErr, print_line};
 use mdb_base::Tid;
 use std::alloc::Global;
-use std::str;
 
 /// The line that is spelled so, without a line feed. The answer and the places are some that the command can have, and each
 /// number is in its range. It is the line that is computed of the bytes.
@@ -37,9 +39,6 @@ pub fn read_line(alloc: Global, text: &[u8]) -> Result<Line, LineErr>
     ensures none { IsErrOf result LineErr.NoLine → (line : Line) → IsTrue (is_line line) → text.now ≡ line_bytes line → ⊥ }
     ensures computed { Gives result (line_in text.now) }
 {
-    let Ok(text) = str::from_utf8(text) else {
-        return Err(LineErr::NoLine);
-    };
     let words = lexing::words_of(alloc, text)?;
     reading::line_of(alloc, &words)
 }
@@ -48,9 +47,6 @@ pub fn read_line(alloc: Global, text: &[u8]) -> Result<Line, LineErr>
 pub fn read_tids(alloc: Global, text: &[u8]) -> Result<Vec<Tid>, LineErr>
     ensures { Reads (λ tids. tids.items) result (tids_in text.now) }
 {
-    let Ok(text) = str::from_utf8(text) else {
-        return Err(LineErr::NoLine);
-    };
     let words = lexing::words_of(alloc, text)?;
     reading::tids_of(alloc, &words)
 }

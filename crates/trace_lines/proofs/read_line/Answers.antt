@@ -1,39 +1,32 @@
-use Rattle.std.proofs.Common.{◌≡◌, ◌∙◌, IsTrue, IsUtf8, IfOk, Result, Err, sym, ap, subst}
+use Rattle.std.proofs.Common.{◌≡◌, ◌∙◌, IsTrue, IfOk, Result, sym, ap, subst}
 use Rattle.std.proofs.lemmas.Result.{err_from_is_err_and}
 use Rattle.fed_rules.specs.declared.commands.Line.{Line}
 use Rattle.line_text.specs.Range.{is_line}
 use Rattle.line_text.specs.Spelling.{line_bytes, line_words}
 use Rattle.trace_lines.specs.declared.error.LineErr.{LineErr}
-use Rattle.trace_lines.specs.declared.error.LineErr.TheVariants as errors
 use Rattle.trace_lines.specs.Lexing.{pieces}
 use Rattle.trace_lines.specs.Reading.{Gives, line_of}
 use Rattle.trace_lines.proofs.Lines.{line_is_words}
-use Rattle.trace_lines.proofs.Spelled.{line_pieces, line_is_text, gives_found, gives_none}
+use Rattle.trace_lines.proofs.Spelled.{line_pieces, gives_found, gives_none}
 use Rattle.trace_lines.proofs.Computed.{gives_line_in}
 use Rattle.trace_lines.proofs.read_line.Goals as goal
-
-pub returns-in_default-clause-none : goal.returns-in_default-clause-none
-returns-in_default-clause-none c = λ _ line is spelled. c.in_default.ensures.cases.0 (subst IsUtf8 (sym spelled) (line_is_text line is))
 
 pub returns-in_err-words-clause-none : goal.returns-in_err-words-clause-none
 returns-in_err-words-clause-none c =
     let p = err_from_is_err_and c.from_residual.result c.from_residual.ensures.1 in
-    λ e line is spelled. c.in_err-words.ensures.none (cc (p.1, p.2)) (line_words line) (line_is_words line is) (sym (line_pieces line is) ∙ ap pieces (sym spelled) ∙ ap pieces (sym c.in-Ok.ensures.cases.0))
+    λ e line is spelled. c.in_err-words.ensures.none (cc (p.1, p.2)) (line_words line) (line_is_words line is) (sym (line_pieces line is) ∙ ap pieces (sym spelled))
 
 pub returns-clause-found : goal.returns-clause-found
 returns-clause-found c =
     let read = subst (λ words. Gives c.line_of.result (line_of words)) c.deref.ensures.value c.line_of.ensures in
-    gives_found c.line_of.result c.in_ok-words.words.items c.args.text.now read c.in_ok-words.ensures.found.0 (c.in_ok-words.ensures.found.1 ∙ ap pieces c.in-Ok.ensures.cases.0)
+    gives_found c.line_of.result c.in_ok-words.words.items c.args.text.now read c.in_ok-words.ensures.found.0 c.in_ok-words.ensures.found.1
 
 pub returns-clause-none : goal.returns-clause-none
 returns-clause-none c =
     let read = subst (λ words. Gives c.line_of.result (line_of words)) c.deref.ensures.value c.line_of.ensures in
-    gives_none c.line_of.result c.in_ok-words.words.items c.args.text.now read c.in_ok-words.ensures.found.0 (c.in_ok-words.ensures.found.1 ∙ ap pieces c.in-Ok.ensures.cases.0)
+    gives_none c.line_of.result c.in_ok-words.words.items c.args.text.now read c.in_ok-words.ensures.found.0 c.in_ok-words.ensures.found.1
 
 -- what is read is what is computed, by the two other clauses
-pub returns-in_default-clause-computed : goal.returns-in_default-clause-computed
-returns-in_default-clause-computed c = gives_line_in (Err errors.NoLine) c.args.text.now tt (returns-in_default-clause-none c)
-
 pub returns-in_err-words-clause-computed : goal.returns-in_err-words-clause-computed
 returns-in_err-words-clause-computed c =
     let p = err_from_is_err_and c.from_residual.result c.from_residual.ensures.1 in
