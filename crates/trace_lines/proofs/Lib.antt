@@ -15,6 +15,7 @@ mod Lines
 mod OneWord
 mod Visible
 mod FrontWords
+mod UsualWords
 mod Spelled
 mod Computed
 mod Determined

@@ -1,3 +1,4 @@
 pub mod Lexing
 pub mod Reading
 pub mod Lexed
+pub mod Usual

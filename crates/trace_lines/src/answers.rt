@@ -60,7 +60,7 @@ fn decision_of(keyword: Keyword) -> Option<Decision>
     }
 }
 
-fn bare_answer(keyword: Keyword) -> Option<Answer>
+pub fn bare_answer(keyword: Keyword) -> Option<Answer>
     ensures { result ≡ reading.bare_answer keyword }
 {
     match keyword {
@@ -88,7 +88,7 @@ fn bare_answer(keyword: Keyword) -> Option<Answer>
     }
 }
 
-fn short_answer(keyword: Keyword, tid: Tid) -> Option<Answer>
+pub fn short_answer(keyword: Keyword, tid: Tid) -> Option<Answer>
     ensures { result ≡ reading.short_answer keyword tid }
 {
     match keyword {
@@ -116,7 +116,7 @@ fn vote_answer(tid: Tid, words: &[Word]) -> Option<Answer>
     }
 }
 
-fn attempt_answer(keyword: Keyword, tid: Tid, words: &[Word]) -> Option<Answer>
+pub fn attempt_answer(keyword: Keyword, tid: Tid, words: &[Word]) -> Option<Answer>
     ensures { result ≡ reading.attempt_answer keyword tid words.now }
 {
     match (keyword, words) {
@@ -134,7 +134,7 @@ fn attempt_answer(keyword: Keyword, tid: Tid, words: &[Word]) -> Option<Answer>
     }
 }
 
-fn row_answer(keyword: Keyword, number: u64, words: &[Word]) -> Option<Answer>
+pub fn row_answer(keyword: Keyword, number: u64, words: &[Word]) -> Option<Answer>
     ensures { result ≡ reading.row_answer keyword number words.now }
 {
     match (keyword, words) {

@@ -8,7 +8,7 @@ use line_text::Word::{Attempt, Number, Plain};
 use line_text::{Keyword, Word};
 use mdb_base::Tid;
 
-fn number_command(keyword: Keyword, number: u64) -> Option<Command>
+pub fn number_command(keyword: Keyword, number: u64) -> Option<Command>
     ensures { result ≡ reading.number_command keyword number }
 {
     match keyword {
@@ -38,7 +38,7 @@ fn attempt_command(keyword: Keyword, tid: Tid) -> Option<Command>
     }
 }
 
-fn pair_command(keyword: Keyword, first: u64, second: u64) -> Option<Command>
+pub fn pair_command(keyword: Keyword, first: u64, second: u64) -> Option<Command>
     ensures { result ≡ reading.pair_command keyword first second }
 {
     match keyword {

@@ -1,13 +1,13 @@
 //! What a text begins with, told by its bytes in one pass. What isn't told so is read by its pieces.
-ghost use Rattle.std.specs.Prelude.{◌≡◌, ◌-◌, ◌<◌, ◌++◌, length, slice_index_or, IsTrue, IfSome, decimal};
+ghost use Rattle.std.specs.Prelude.{◌≡◌, ◌-◌, ◌<◌, ◌∷◌, ◌++◌, length, slice_index_or, IsTrue, IfSome, decimal};
 ghost use Rattle.std.specs.Int.{IsInRange};
 ghost use Rattle.line_text.specs.Range.{is_large, is_word};
 ghost use Rattle.line_text.specs.Words.{word_text};
-ghost use Rattle.line_text.specs.declared.word.Word.TheVariants.{Plain};
+ghost use Rattle.line_text.specs.declared.word.Word.TheVariants.{Number, Plain};
 
 use crate::front_keywords::front_keyword;
 use crate::lexing::{place_at, tid_at};
-use line_text::Word;
+use line_text::{Keyword, Word};
 
 /// The most that a number may be to which a digit is added.
 const MOST_BEFORE: u64 = 99_999_999_999_999_999;
@@ -56,6 +56,7 @@ fn front_number(text: &[u8]) -> Option<(u64, &[u8])>
 }
 
 /// The number, the attempt or the place that a text begins with, and the text behind it.
+#[inline(always)]
 fn front_numbers(text: &[u8]) -> Option<(Word, &[u8])>
     ensures { IfSome result (λ p. IsTrue (is_word p.0) × (text.now ≡ word_text p.0 ++ p.1.now)) }
 {
@@ -83,5 +84,36 @@ pub fn front_word(text: &[u8]) -> Option<(Word, &[u8])>
             let (keyword, rest) = front_keyword(text)?;
             Some((Word::Plain(keyword), rest))
         }
+    }
+}
+
+/// The number that stands behind a space at the front of a text, and the text behind it.
+pub fn number_behind(text: &[u8]) -> Option<(u64, &[u8])>
+    ensures { IfSome result (λ p. IsTrue (is_word (Number p.0)) × (text.now ≡ 32 ∷ (word_text (Number p.0) ++ p.1.now))) }
+{
+    match text {
+        [b' ', more @ ..] => front_number(more),
+        _ => None,
+    }
+}
+
+/// The number, the attempt or the place that stands behind a space at the front of a text, and the text behind it.
+#[inline(always)]
+pub fn numbers_behind(text: &[u8]) -> Option<(Word, &[u8])>
+    ensures { IfSome result (λ p. IsTrue (is_word p.0) × (text.now ≡ 32 ∷ (word_text p.0 ++ p.1.now))) }
+{
+    match text {
+        [b' ', more @ ..] => front_numbers(more),
+        _ => None,
+    }
+}
+
+/// The keyword that stands behind a space at the front of a text, and the text behind it.
+pub fn keyword_behind(text: &[u8]) -> Option<(Keyword, &[u8])>
+    ensures { IfSome result (λ p. text.now ≡ 32 ∷ (word_text (Plain p.0) ++ p.1.now)) }
+{
+    match text {
+        [b' ', more @ ..] => front_keyword(more),
+        _ => None,
     }
 }

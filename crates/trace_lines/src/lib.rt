@@ -24,6 +24,9 @@ mod lexing;
 mod marks;
 mod numbers;
 mod reading;
+mod usual_answers;
+mod usual_commands;
+mod usual_lines;
 
 pub use error::LineErr;
 pub use fed_rules::{Answer, Cause, Command, Line, Place, Places, Stamped, StampedLines};
@@ -39,6 +42,9 @@ pub fn read_line(alloc: Global, text: &[u8]) -> Result<Line, LineErr>
     ensures none { IsErrOf result LineErr.NoLine → (line : Line) → IsTrue (is_line line) → text.now ≡ line_bytes line → ⊥ }
     ensures computed { Gives result (line_in text.now) }
 {
+    if let Some(line) = usual_lines::usual_line(alloc, text)? {
+        return Ok(line);
+    }
     let words = lexing::words_of(alloc, text)?;
     reading::line_of(alloc, &words)
 }

@@ -8,12 +8,12 @@ use Rattle.trace_lines.specs.Lexing.{pieces}
 use Rattle.trace_lines.specs.Reading.{Gives, line_of}
 use Rattle.trace_lines.proofs.Lines.{line_is_words}
 use Rattle.trace_lines.proofs.Spelled.{line_pieces, gives_found, gives_none}
-use Rattle.trace_lines.proofs.Computed.{gives_line_in}
+use Rattle.trace_lines.proofs.Computed.{gives_line_in, line_in_again}
 use Rattle.trace_lines.proofs.read_line.Goals as goal
 
 pub returns-in_err-words-clause-none : goal.returns-in_err-words-clause-none
 returns-in_err-words-clause-none c =
-    let p = err_from_is_err_and c.from_residual.result c.from_residual.ensures.1 in
+    let p = err_from_is_err_and c.from_residual-in_err-words.result c.from_residual-in_err-words.ensures.1 in
     λ e line is spelled. c.in_err-words.ensures.none (cc (p.1, p.2)) (line_words line) (line_is_words line is) (sym (line_pieces line is) ∙ ap pieces (sym spelled))
 
 pub returns-clause-found : goal.returns-clause-found
@@ -29,8 +29,14 @@ returns-clause-none c =
 -- what is read is what is computed, by the two other clauses
 pub returns-in_err-words-clause-computed : goal.returns-in_err-words-clause-computed
 returns-in_err-words-clause-computed c =
-    let p = err_from_is_err_and c.from_residual.result c.from_residual.ensures.1 in
-    gives_line_in c.from_residual.result c.args.text.now (subst (λ (r : Result Line LineErr). IfOk r (λ line. IsTrue (is_line line) × (c.args.text.now ≡ line_bytes line))) (sym p.1) tt) (returns-in_err-words-clause-none c)
+    let p = err_from_is_err_and c.from_residual-in_err-words.result c.from_residual-in_err-words.ensures.1 in
+    gives_line_in c.from_residual-in_err-words.result c.args.text.now (subst (λ (r : Result Line LineErr). IfOk r (λ line. IsTrue (is_line line) × (c.args.text.now ≡ line_bytes line))) (sym p.1) tt) (returns-in_err-words-clause-none c)
 
 pub returns-clause-computed : goal.returns-clause-computed
 returns-clause-computed c = gives_line_in c.line_of.result c.args.text.now (returns-clause-found c) (returns-clause-none c)
+
+-- a usual line
+pub returns-in-Some-clause-computed : goal.returns-in-Some-clause-computed
+returns-in-Some-clause-computed c =
+    let found = rw c.in-Some.is at c.in_ok-line.ensures in
+    line_in_again c.in-Some.line c.args.text.now found.0 found.1
