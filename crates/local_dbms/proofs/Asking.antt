@@ -1,5 +1,5 @@
 -- What a site says to what is asked of it, from what its core says to the event that this comes to.
-use Rattle.std.proofs.Common.{◌≡◌, ◌+◌, Bool, false, None, List, Result, Ok, Err, IfOk, IfErr, subst, ◌∙◌}
+use Rattle.std.proofs.Common.{◌≡◌, ◌+◌, Bool, true, false, None, List, Result, Ok, Err, IfOk, IfErr, sym, subst, ◌∙◌}
 use Rattle.fed_rules.specs.declared.events.SiteEvent.{SiteEvent}
 use Rattle.fed_rules.specs.declared.events.SiteStep.{SiteStep}
 use Rattle.fed_rules.specs.Requests.{Request, Submits}
@@ -15,6 +15,15 @@ use Rattle.local_dbms.specs.Asks.{CanAsk, can_send, site_request}
 use Rattle.local_dbms.specs.Stands.{CanSubmit, Each_site, Fails, Recalls, Some_site, Stands, Tells}
 use Rattle.local_dbms.proofs.Fit.{fails, recalled, tells_of}
 use Rattle.local_dbms.proofs.Quiet.{ask_quiet, unsent}
+
+-- an outcome that is known
+pub ok_with : {A E : Type 0} (P : A → Type 0) (r : Result A E) (a : A) → r ≡ Ok a → P a → IfOk r P
+ok_with P r a is p = subst (λ o. IfOk o P) (sym is) p
+
+-- what can make the site send may
+pub may_send : (ask : SiteAsk) (result : Result SiteStep StepErr) → can_send ask ≡ true → IfOk result (λ step. can_send ask ≡ false → step.sends ≡ None)
+may_send ask (Ok step) can = λ cannot. cc
+may_send ask (Err why) can = tt
 
 module _ {E : Type 0} (stands : E → Start → List EngineLine → Type 0) (tells : Bool) (old : LocalDbms E) (core : SiteCore E) (before now : Seen) (ask : SiteAsk) (event : SiteEvent)
     (asked : Each_site (Recalls stands old) (λ home programs past. Submits event ≡ site_request ask home programs past))

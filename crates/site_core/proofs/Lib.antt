@@ -24,6 +24,7 @@ mod OpenedOnce
 mod OperationLaws
 mod Outcomes
 mod OverLaws
+mod QuietSteps
 mod RememberLaws
 mod RuleWalks
 mod SealingLaws

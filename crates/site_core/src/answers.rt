@@ -1,8 +1,9 @@
 //! What a site says to an access of a local attempt and to a sealing that is refused.
-ghost use Rattle.std.specs.Prelude.{◌≡◌, None};
+ghost use Rattle.std.specs.Prelude.{◌≡◌, None, Ok};
 ghost use Rattle.mdb_base.specs.declared.names.Tid.{Tid};
 ghost use Rattle.fed_rules.specs.Site.{act_answer, refusal_answer};
 
+use actor_store::StepErr;
 use fed_rules::{Answer, SiteStep};
 use mdb_base::{PlainAct, Reply, Why};
 
@@ -38,4 +39,11 @@ pub fn says(answer: Answer) -> SiteStep
         answer,
         sends: None,
     }
+}
+
+/// The answer to an event at which nothing fails: it says something and sends nothing.
+pub fn said(answer: Answer) -> Result<SiteStep, StepErr>
+    ensures { result ≡ Ok (record { answer = answer; sends = None }) }
+{
+    Ok(says(answer))
 }

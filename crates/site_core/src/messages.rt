@@ -10,7 +10,6 @@ use actor_store::{Standing, StepErr};
 use engine_contract::LocalEngine;
 use fed_rules::{SiteEvent, SiteStep, ToSite};
 use journal_disk::Disk;
-use mdb_base::Memory;
 use std::alloc::Global;
 
 impl<E: LocalEngine> SiteCore<E> {
@@ -29,14 +28,8 @@ impl<E: LocalEngine> SiteCore<E> {
         ensures cause { HasCauseOf StepErr.Disk (D.seen disk.old).faults (D.seen disk.new).faults result }
     {
         match message {
-            ToSite::Work { tid, epoch, n, act } => match self.work(alloc, tid, epoch, n, act) {
-                Ok(step) => Ok(step),
-                Err(Memory) => Err(StepErr::Memory),
-            },
-            ToSite::Take { tid, epoch, n } => match self.take(alloc, tid, epoch, n) {
-                Ok(step) => Ok(step),
-                Err(Memory) => Err(StepErr::Memory),
-            },
+            ToSite::Work { tid, epoch, n, act } => self.work(alloc, tid, epoch, n, act),
+            ToSite::Take { tid, epoch, n } => self.take(alloc, tid, epoch, n),
             ToSite::Prepare { tid, epoch, n } => self.prepare(alloc, disk, tid, epoch, n),
             ToSite::Decide { tid, decision } => self.decide(alloc, disk, tid, decision),
         }

@@ -1,5 +1,5 @@
 //! The operations of a global transaction: its acts, and the taking of its ticket.
-ghost use Rattle.std.specs.Prelude.{◌≡◌, IfOk, OnErr, Some, None};
+ghost use Rattle.std.specs.Prelude.{◌≡◌, IfOk, IfErr, OnErr, Some, None, Ok};
 ghost use Rattle.std.specs.Option.{option_copied};
 ghost use Rattle.fed_rules.specs.Site.{of_take, of_work};
 ghost use Rattle.fed_rules.specs.declared.answers.Answer.TheVariants as Say;
@@ -11,10 +11,10 @@ ghost use Rattle.site_core.specs.Steps.{AddsWhere, CanTakeTicket, CanWork, EachP
 
 use crate::locals::access;
 use crate::site::SiteCore;
-use actor_store::Standing;
+use actor_store::{Standing, StepErr};
 use engine_contract::LocalEngine;
 use fed_rules::{Answer, FromSite, SiteStep};
-use mdb_base::{Memory, PlainAct, Reply, Tid};
+use mdb_base::{PlainAct, Reply, Tid};
 use site_book::LiveRun;
 use std::alloc::Global;
 
@@ -27,22 +27,24 @@ impl<E: LocalEngine> SiteCore<E> {
         epoch: u32,
         n: u8,
         act: PlainAct,
-    ) -> Result<SiteStep, Memory>
+    ) -> Result<SiteStep, StepErr>
         requires up { self.old.store.standing ≡ Standing.Up }
         requires may { SomePast (Holds E.stands self.old) (CanWork tid) }
         ensures answered { IfOk result (AddsWhere E.stands self.old self.new (CanWork tid) (λ home past. of_work home past tid epoch n act)) }
         ensures memory { OnErr result (EachPast (Holds E.stands self.old) (Remembers E.stands self.new)) }
+        ensures want { IfErr result (λ why. why ≡ StepErr.Memory) }
         ensures store { self.new.store ≡ self.old.store }
     {
-        if self.book.live(tid).is_none() {
+        let live = self.book.live(tid);
+        if live.is_none() {
             return self.first_work(alloc, tid, epoch, n, act);
         }
-        if let Some(reply) = worked_again(self.book.live(tid), self.epoch, epoch, n) {
-            return Ok(self.did(tid, n, reply));
+        if let Some(reply) = worked_again(live, self.epoch, epoch, n) {
+            return self.did(tid, n, reply);
         }
         let reply = access(&mut self.engine, alloc, tid, act)?;
         self.book.note_reply(tid, act, reply);
-        Ok(self.did(tid, n, reply))
+        self.did(tid, n, reply)
     }
 
     /// An act of an attempt that isn't live: the first one of a new subtransaction begins it, and any other one is unknown.
@@ -53,29 +55,30 @@ impl<E: LocalEngine> SiteCore<E> {
         epoch: u32,
         n: u8,
         act: PlainAct,
-    ) -> Result<SiteStep, Memory>
+    ) -> Result<SiteStep, StepErr>
         requires up { self.old.store.standing ≡ Standing.Up }
         requires not_live { live_in self.old.book tid ≡ None }
         requires may { SomePast (Holds E.stands self.old) (CanWork tid) }
         ensures answered { IfOk result (AddsWhere E.stands self.old self.new (CanWork tid) (λ home past. of_work home past tid epoch n act)) }
         ensures memory { OnErr result (EachPast (Holds E.stands self.old) (Remembers E.stands self.new)) }
+        ensures want { IfErr result (λ why. why ≡ StepErr.Memory) }
         ensures store { self.new.store ≡ self.old.store }
     {
         if self.book.has_entry(tid) || epoch != 0 || n != 0 {
-            return Ok(self.did(tid, n, Reply::Unknown));
+            return self.did(tid, n, Reply::Unknown);
         }
         self.book.begin_global(alloc, tid)?;
         let Ok(_) = self.engine.begin(alloc, tid) else {
             self.book.forget(tid);
-            return Err(Memory);
+            return Err(StepErr::Memory);
         };
         let Ok(reply) = access(&mut self.engine, alloc, tid, act) else {
             self.engine.unbegin(tid);
             self.book.forget(tid);
-            return Err(Memory);
+            return Err(StepErr::Memory);
         };
         self.book.note_reply(tid, act, reply);
-        Ok(self.did(tid, n, reply))
+        self.did(tid, n, reply)
     }
 
     /// A live subtransaction takes the site's ticket as its operation `n`, in an epoch of the site, or as the first one in epoch 0.
@@ -85,26 +88,27 @@ impl<E: LocalEngine> SiteCore<E> {
         tid: Tid,
         epoch: u32,
         n: u8,
-    ) -> Result<SiteStep, Memory>
+    ) -> Result<SiteStep, StepErr>
         requires up { self.old.store.standing ≡ Standing.Up }
         requires may { SomePast (Holds E.stands self.old) (CanTakeTicket tid) }
         ensures answered { IfOk result (AddsWhere E.stands self.old self.new (CanTakeTicket tid) (λ home past. of_take home past tid epoch n)) }
         ensures memory { OnErr result (EachPast (Holds E.stands self.old) (Remembers E.stands self.new)) }
+        ensures want { IfErr result (λ why. why ≡ StepErr.Memory) }
         ensures store { self.new.store ≡ self.old.store }
     {
         if let Some(reply) = taken_again(self.book.live(tid), self.epoch, epoch, n) {
-            return Ok(self.did(tid, n, reply));
+            return self.did(tid, n, reply);
         }
         let reply = self.engine.take(alloc, tid)?;
         self.book.note_take(tid, reply);
-        Ok(self.did(tid, n, reply))
+        self.did(tid, n, reply)
     }
 
     /// The answer to an operation, which names the epoch of the site.
-    fn did(&self, tid: Tid, n: u8, reply: Reply) -> SiteStep
-        ensures { result ≡ record { answer = Say.Did tid reply; sends = Some (From.Did tid self.now.epoch n reply) } }
+    fn did(&self, tid: Tid, n: u8, reply: Reply) -> Result<SiteStep, StepErr>
+        ensures { result ≡ Ok (record { answer = Say.Did tid reply; sends = Some (From.Did tid self.now.epoch n reply) }) }
     {
-        SiteStep {
+        Ok(SiteStep {
             answer: Answer::Did(tid, reply),
             sends: Some(FromSite::Did {
                 tid,
@@ -112,7 +116,7 @@ impl<E: LocalEngine> SiteCore<E> {
                 n,
                 reply,
             }),
-        }
+        })
     }
 }
 

@@ -27,7 +27,7 @@ ghost use Rattle.site_core.specs.Stands.{Holds, IsOfKind, Stands, beside_rules};
 ghost use Rattle.site_core.specs.Steps.{AnswersBeside, AnswersWhere, BreaksBeside, BreaksWhere, CanStep, EachPast, FailsOn, SomePast, StepsOn};
 ghost use Rattle.site_core.specs.Store.{SomeStop};
 
-use crate::answers::says;
+use crate::answers::said;
 use crate::store::{SiteStore, first_protocol, set_up_store};
 use actor_store::{Standing, StepErr};
 use engine_contract::LocalEngine;
@@ -238,23 +238,17 @@ impl<E: LocalEngine> SiteCore<E> {
         ensures cause { HasCauseOf StepErr.Disk (D.seen disk.old).faults (D.seen disk.new).faults result }
     {
         match event {
-            SiteEvent::Begin(tid) => match self.begin(alloc, tid) {
-                Ok(step) => Ok(step),
-                Err(Memory) => Err(StepErr::Memory),
-            },
-            SiteEvent::Act { tid, act } => match self.act(alloc, tid, act) {
-                Ok(step) => Ok(step),
-                Err(Memory) => Err(StepErr::Memory),
-            },
+            SiteEvent::Begin(tid) => self.begin(alloc, tid),
+            SiteEvent::Act { tid, act } => self.act(alloc, tid, act),
             SiteEvent::Commit(tid) => self.commit(alloc, disk, tid),
-            SiteEvent::Abort(tid) => Ok(self.abort(tid)),
-            SiteEvent::Fate(tx) => Ok(self.fate(tx)),
-            SiteEvent::Halt { cut } => Ok(self.halt(disk, cut)),
-            SiteEvent::Trip { calls, cut } => Ok(self.set_trip(calls, cut)),
-            SiteEvent::Back => Ok(says(Answer::Awake)),
+            SiteEvent::Abort(tid) => self.abort(tid),
+            SiteEvent::Fate(tx) => self.fate(tx),
+            SiteEvent::Halt { cut } => self.halt(disk, cut),
+            SiteEvent::Trip { calls, cut } => self.trips(calls, cut),
+            SiteEvent::Back => said(Answer::Awake),
             SiteEvent::Check => self.check(alloc, disk),
-            SiteEvent::Ask(tid) => Ok(self.ask(tid)),
-            SiteEvent::Drop(tid) => Ok(self.give_up(tid)),
+            SiteEvent::Ask(tid) => self.ask(tid),
+            SiteEvent::Drop(tid) => self.give_up(tid),
             SiteEvent::Give(message) => self.give(alloc, disk, message),
         }
     }
@@ -274,9 +268,9 @@ impl<E: LocalEngine> SiteCore<E> {
         ensures cause { HasCauseOf StepErr.Disk (D.seen disk.old).faults (D.seen disk.new).faults result }
     {
         match event {
-            SiteEvent::Trip { calls, cut } => Ok(self.set_trip(calls, cut)),
+            SiteEvent::Trip { calls, cut } => self.trips(calls, cut),
             SiteEvent::Back => self.back(alloc, disk),
-            _ => Ok(says(Answer::Down)),
+            _ => said(Answer::Down),
         }
     }
 }

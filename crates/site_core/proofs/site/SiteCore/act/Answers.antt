@@ -11,21 +11,24 @@ use Rattle.fed_rules.specs.SitePast.{engine_lines, epoch_start}
 use Rattle.site_core.specs.declared.site.SiteCore.{SiteCore}
 use Rattle.site_core.proofs.LineLaws.{act_acts, act_idle, is_there, live_none, live_some}
 use Rattle.site_core.proofs.LocalLaws.{act_adds, few_noted, replied_by}
+use Rattle.site_core.proofs.Outcomes.{ok_with}
 use Rattle.site_core.proofs.RememberLaws.{adds_as, is_up_at}
 use Rattle.site_core.proofs.UpLaws.{adds_quiet}
 use Rattle.site_core.proofs.site.SiteCore.act.Goals as goal
 
 pub returns-then-is_none-clause-answered : goal.returns-then-is_none-clause-answered
-returns-then-is_none-clause-answered g c = λ home past h.
+returns-then-is_none-clause-answered g c = ok_with _ c.said.result _ c.said.ensures
+    (λ home past h any.
     let core = c.args.self.now in
     let u = is_up_at g.E.LocalEngine.stands core home past h.memory c.requires.up in
     let absent = is_there c.live.result _ c.is_none.result c.live.ensures c.is_none.ensures ∙ ap not c.if-is_none.true in
     let none = live_none core.book home past c.args.tid u.notes (nothing_is _ absent) in
     adds_as g.E.LocalEngine.stands _ core home past _ _ (act_idle home past c.args.tid c.args.act none)
-    (adds_quiet g.E.LocalEngine.stands core home past c.says.result (Ev.Act c.args.tid c.args.act) Say.Idle h c.requires.up refl refl refl (λ t. refl) (λ tx. refl) c.says.ensures)
+    (adds_quiet g.E.LocalEngine.stands core home past _ (Ev.Act c.args.tid c.args.act) Say.Idle h c.requires.up refl refl refl (λ t. refl) (λ tx. refl) refl))
 
 pub returns-clause-answered : goal.returns-clause-answered
-returns-clause-answered g c = λ home past h.
+returns-clause-answered g c = ok_with _ c.said-2.result _ c.said-2.ensures
+    (λ home past h any.
     let core = c.args.self.now in
     let tid = c.args.tid in
     let act = c.args.act in
@@ -39,6 +42,6 @@ returns-clause-answered g c = λ home past h.
     let v = is_up_at g.E.LocalEngine.stands core k.home k.past k.stood.memory c.requires.up in
     adds_as g.E.LocalEngine.stands _ _ home past _ _
     (act_acts home past tid act l.run l.live ∙ ap (λ (r : Reply). with_lines (Ev.Act tid act) (act_answer tid r act) (Acts tid act r ∷ [])) (sym ruled))
-    (act_adds g.E.LocalEngine.stands core _ home past tid act reply c.says-2.result l h c.requires.up (few_noted core.book home past k.home k.past tid l (live_some core.book k.home k.past tid v.notes there) k.holds.few)
+    (act_adds g.E.LocalEngine.stands core _ home past tid act reply _ l h c.requires.up (few_noted core.book home past k.home k.past tid l (live_some core.book k.home k.past tid v.notes there) k.holds.few)
     (ap (λ b. let new : SiteCore _ = record core { engine = c.access.new.engine; book = b } in new) c.note_reply.ensures) stood
-    (c.says-2.ensures ∙ ap (λ (a : Answer). let s : SiteStep = record { answer = a; sends = None } in s) (c.act_answer.ensures tid)))
+    (refl ∙ ap (λ (a : Answer). let s : SiteStep = record { answer = a; sends = None } in s) (c.act_answer.ensures tid))))

@@ -10,29 +10,32 @@ use Rattle.site_book.proofs.ForCallers.{unbegins-begins}
 use Rattle.site_core.specs.declared.site.SiteCore.{SiteCore}
 use Rattle.site_core.proofs.LineLaws.{begin_begun, begin_committed, begin_running, running_is}
 use Rattle.site_core.proofs.LocalLaws.{begin_adds, free_there, no_entry}
+use Rattle.site_core.proofs.Outcomes.{ok_with}
 use Rattle.site_core.proofs.NotesLaws.{stands_not}
 use Rattle.site_core.proofs.RememberLaws.{adds_as, is_up_at, remembers_engine}
 use Rattle.site_core.proofs.UpLaws.{adds_quiet}
 use Rattle.site_core.proofs.site.SiteCore.begin.Goals as goal
 
 pub returns-in-Some-clause-answered : goal.returns-in-Some-clause-answered
-returns-in-Some-clause-answered g c = λ home past h may.
+returns-in-Some-clause-answered g c = ok_with _ c.said.result _ c.said.ensures
+    (λ home past h may.
     let core = c.args.self.now in
     let tid = c.args.tid in
     let u = is_up_at g.E.LocalEngine.stands core home past h.memory c.requires.up in
     let is = sym (u.notes.committed_is tid.tx) ∙ sym c.committed.ensures ∙ c.in-Some.is in
     adds_as g.E.LocalEngine.stands _ core home past _ _ (begin_committed home past tid c.in-Some.committed is)
-    (adds_quiet g.E.LocalEngine.stands core home past c.says.result (Ev.Begin tid) (Say.Committed c.in-Some.committed) h c.requires.up refl refl refl (λ t. refl) (λ tx. refl) c.says.ensures)
+    (adds_quiet g.E.LocalEngine.stands core home past _ (Ev.Begin tid) (Say.Committed c.in-Some.committed) h c.requires.up refl refl refl (λ t. refl) (λ tx. refl) refl))
 
 pub returns-in-Some-running-clause-answered : goal.returns-in-Some-running-clause-answered
-returns-in-Some-running-clause-answered g c = λ home past h may.
+returns-in-Some-running-clause-answered g c = ok_with _ c.said-in-Some-running.result _ c.said-in-Some-running.ensures
+    (λ home past h may.
     let core = c.args.self.now in
     let tid = c.args.tid in
     let u = is_up_at g.E.LocalEngine.stands core home past h.memory c.requires.up in
     let none = sym (u.notes.committed_is tid.tx) ∙ sym c.committed.ensures ∙ none_left c.committed.result c.in_default.not-Some in
     let is = running_is core.book home past u.notes (g.met.E.LocalEngine.right _ _ _ u.engine) h.memory.begun tid.tx may.apart ∙ sym c.running.ensures ∙ c.in-Some-running.is in
     adds_as g.E.LocalEngine.stands _ core home past _ _ (begin_running home past tid c.in-Some-running.running none is)
-    (adds_quiet g.E.LocalEngine.stands core home past c.says-in-Some-running.result (Ev.Begin tid) (Say.Running c.in-Some-running.running) h c.requires.up refl refl refl (λ t. refl) (λ tx. refl) c.says-in-Some-running.ensures)
+    (adds_quiet g.E.LocalEngine.stands core home past _ (Ev.Begin tid) (Say.Running c.in-Some-running.running) h c.requires.up refl refl refl (λ t. refl) (λ tx. refl) refl))
 
 pub begin_local-requires-clause-free : goal.begin_local-requires-clause-free
 begin_local-requires-clause-free g c =
@@ -53,7 +56,8 @@ begin-requires g c =
     }
 
 pub returns-in-Ok-clause-answered : goal.returns-in-Ok-clause-answered
-returns-in-Ok-clause-answered g c = λ home past h may.
+returns-in-Ok-clause-answered g c = ok_with _ c.said-in-Ok.result _ c.said-in-Ok.ensures
+    (λ home past h may.
     let core = c.args.self.now in
     let tid = c.args.tid in
     let n = c.in-Ok.field-0 in
@@ -66,9 +70,9 @@ returns-in-Ok-clause-answered g c = λ home past h may.
     let drawn : n ≡ next_number home past = (g.met.E.LocalEngine.right _ _ _ stood).0.1 in
     let P : ℕ → Type 0 = λ m. g.E.LocalEngine.stands c.begin.new.self (epoch_start home past) (Begins tid m ∷ engine_lines past) in
     adds_as g.E.LocalEngine.stands _ _ home past _ _ (begin_begun home past tid none is)
-    (begin_adds g.E.LocalEngine.stands core _ home past tid (next_number home past) c.says-in-Ok.result h c.requires.up may.new may.apart not_running
+    (begin_adds g.E.LocalEngine.stands core _ home past tid (next_number home past) _ h c.requires.up may.new may.apart not_running
     (stands_not core.book tid.tx not_running not_committed)
-    (ap (λ b. let new : SiteCore _ = record core { engine = c.begin.new.self; book = b } in new) c.in_ok-begin_local.ensures.begun) (subst P drawn stood) c.says-in-Ok.ensures)
+    (ap (λ b. let new : SiteCore _ = record core { engine = c.begin.new.self; book = b } in new) c.in_ok-begin_local.ensures.begun) (subst P drawn stood) refl))
 
 pub returns-in-Err-clause-memory : goal.returns-in-Err-clause-memory
 returns-in-Err-clause-memory g c = λ home past h.

@@ -14,13 +14,15 @@ use Rattle.site_book.proofs.ForCallers.{forgets-enters}
 use Rattle.site_core.specs.declared.site.SiteCore.{SiteCore}
 use Rattle.site_core.proofs.LineLaws.{live_none}
 use Rattle.site_core.proofs.OperationLaws.{did_adds, did_is}
+use Rattle.site_core.proofs.Outcomes.{ok_with}
 use Rattle.site_core.proofs.RememberLaws.{adds_as, is_up_at, remembers_engine}
 use Rattle.site_core.proofs.WorkLaws.{begins_live, entered_over, first_adds, first_is, is_elsewhere, is_later, unentered, work_first, work_none, work_over}
 use Rattle.site_core.proofs.site.SiteCore.first_work.Goals.{then-has_entry-via-then-has_entry, then-has_entry-via-else-has_entry+then-epoch-ne0, then-has_entry-via-else-has_entry+else-epoch-ne0+then-n-ne0}
 use Rattle.site_core.proofs.site.SiteCore.first_work.Goals as goal
 
 pub returns-then-has_entry-clause-answered : goal.returns-then-has_entry-clause-answered
-returns-then-has_entry-clause-answered g c = λ home past h may.
+returns-then-has_entry-clause-answered g c = ok_with _ c.did.result _ c.did.ensures
+    (λ home past h may.
     let core = c.args.self.now in
     let tid = c.args.tid in
     let e = c.args.epoch in
@@ -35,7 +37,7 @@ returns-then-has_entry-clause-answered g c = λ home past h may.
       | then-has_entry-via-else-has_entry+else-epoch-ne0+then-n-ne0 w ↦ work_none home past tid e n act none (is_later e n w.if-n-ne0.true)
     ] in
     adds_as g.E.LocalEngine.stands _ core home past _ _ (line ∙ did_is home past (To.Work tid e n act) tid n Reply_is.Unknown [])
-    (did_adds g.E.LocalEngine.stands core home past (To.Work tid e n act) tid n Reply_is.Unknown c.did.result h c.requires.up (λ t. refl) c.did.ensures)
+    (did_adds g.E.LocalEngine.stands core home past (To.Work tid e n act) tid n Reply_is.Unknown _ h c.requires.up (λ t. refl) refl))
 
 pub returns-in_default-clause-memory : goal.returns-in_default-clause-memory
 returns-in_default-clause-memory g c = λ home past h.
@@ -85,7 +87,8 @@ note_reply-requires-clause-few g c =
     subst P (sym (ap (λ (b : Book). live_in b c.args.tid) c.in_ok-begin_global.ensures.begun ∙ begins_live c.args.self.now.book c.args.tid)) few
 
 pub returns-clause-answered : goal.returns-clause-answered
-returns-clause-answered g c = λ home past h may.
+returns-clause-answered g c = ok_with _ c.did-2.result _ c.did-2.ensures
+    (λ home past h may.
     let core = c.args.self.now in
     let tid = c.args.tid in
     let e = c.args.epoch in
@@ -101,5 +104,5 @@ returns-clause-answered g c = λ home past h may.
     let right = g.met.E.LocalEngine.right _ _ _ stood in
     let book : c.note_reply.new.self ≡ notes_reply tid act reply (begins_global tid core.book) = c.note_reply.ensures ∙ ap (notes_reply tid act reply) c.in_ok-begin_global.ensures.begun in
     adds_as g.E.LocalEngine.stands _ _ home past _ _ (work_first home past tid e n act clear dead first ∙ first_is home past tid e n act number reply right)
-    (first_adds g.E.LocalEngine.stands core _ home past tid e n number act reply c.did-2.result h c.requires.up may.apart
-    (ap (λ b. let new : SiteCore _ = record core { engine = c.access.new.engine; book = b } in new) book) stood c.did-2.ensures)
+    (first_adds g.E.LocalEngine.stands core _ home past tid e n number act reply _ h c.requires.up may.apart
+    (ap (λ b. let new : SiteCore _ = record core { engine = c.access.new.engine; book = b } in new) book) stood refl))

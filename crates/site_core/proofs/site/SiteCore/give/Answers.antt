@@ -1,33 +1,17 @@
-use Rattle.std.proofs.Common.{ap, ◌∙◌}
+use Rattle.std.proofs.Common.{refl, ap, ◌∙◌}
 use Rattle.mdb_base.proofs.ForCallers.{map_ok}
+use Rattle.fed_rules.specs.declared.events.SiteEvent.TheVariants as Ev
 use Rattle.fed_rules.specs.declared.events.SiteStep.{SiteStep}
 use Rattle.fed_rules.specs.Site.{of_decide, of_give, of_prepare, of_take, of_work, unless_tripped}
 use Rattle.fed_rules.specs.SitePast.{SiteHappening, SitePast}
 use Rattle.fed_rules.specs.SiteRecords.{Home}
 use Rattle.site_core.specs.Stands.{Answers, Stands}
-use Rattle.site_core.specs.Steps.{CanDecide, CanPrepare, CanTakeMessage, EachPast}
+use Rattle.site_core.specs.Steps.{CanDecide, CanPrepare, CanTakeMessage, CanTakeTicket, CanWork, EachPast}
 use Rattle.site_core.proofs.OperationLaws.{give_decide, give_prepare, give_take, give_work, take_quiet, work_quiet}
-use Rattle.site_core.proofs.RememberLaws.{answers_as, answers_quiet}
+use Rattle.site_core.proofs.Outcomes.{other_cause}
+use Rattle.site_core.proofs.QuietSteps.{all_answered, all_wanting}
+use Rattle.site_core.proofs.RememberLaws.{answers_as}
 use Rattle.site_core.proofs.site.SiteCore.give.Goals as goal
-
-pub returns-in-Ok-clause-answered : goal.returns-in-Ok-clause-answered
-returns-in-Ok-clause-answered g c = λ home past k may.
-    let tid = c.in-Work.tid in
-    let e = c.in-Work.epoch in
-    let n = c.in-Work.n in
-    let act = c.in-Work.act in
-    let may' = rw c.in-Work.is at may in
-    answers_quiet g.E.LocalEngine.stands g.D.Disk.tells _ c.args.self.now c.work.new.self (g.D.Disk.seen c.args.disk.now) home past _ (of_work home past tid e n act) k c.work.ensures.store (work_quiet home past tid e n act)
-    (ap (λ (x : SiteHappening). unless_tripped home past x) (ap (of_give home past) c.in-Work.is ∙ give_work home past tid e n act)) (c.in-Ok.ensures.answered home past k.holds may')
-
-pub returns-in-Ok-take-clause-answered : goal.returns-in-Ok-take-clause-answered
-returns-in-Ok-take-clause-answered g c = λ home past k may.
-    let tid = c.in-Take.tid in
-    let e = c.in-Take.epoch in
-    let n = c.in-Take.n in
-    let may' = rw c.in-Take.is at may in
-    answers_quiet g.E.LocalEngine.stands g.D.Disk.tells _ c.args.self.now c.take.new.self (g.D.Disk.seen c.args.disk.now) home past _ (of_take home past tid e n) k c.take.ensures.store (take_quiet home past tid e n)
-    (ap (λ (x : SiteHappening). unless_tripped home past x) (ap (of_give home past) c.in-Take.is ∙ give_take home past tid e n)) (c.in-Ok-take.ensures.answered home past k.holds may')
 
 pub returns-in-Prepare-clause-answered : goal.returns-in-Prepare-clause-answered
 returns-in-Prepare-clause-answered g c =
@@ -51,3 +35,29 @@ returns-in-Decide-clause-answered g c =
     map_ok P Q c.decide.result c.decide.ensures.answered
     (λ step p home past k may. answers_as g.E.LocalEngine.stands g.D.Disk.tells 0 (g.D.Disk.seen c.args.disk.now) step c.decide.new.self (g.D.Disk.seen c.decide.new.disk) home past _ _
     (ap (λ (x : SiteHappening). unless_tripped home past x) (ap (of_give home past) c.in-Decide.is ∙ give_decide home past tid decision)) (p home past k (rw c.in-Decide.is at may)))
+
+pub returns-in-Work-clause-answered : goal.returns-in-Work-clause-answered
+returns-in-Work-clause-answered g c =
+    all_answered g.E.LocalEngine.stands g.D.Disk.tells c.args.self.now c.work.new.self (g.D.Disk.seen c.args.disk.now) c.work.ensures.store (CanWork c.in-Work.tid) (CanTakeMessage c.args.message) (λ home past. of_work home past c.in-Work.tid c.in-Work.epoch c.in-Work.n c.in-Work.act) (λ home past. unless_tripped home past (of_give home past c.args.message)) c.work.result (λ home past. work_quiet home past c.in-Work.tid c.in-Work.epoch c.in-Work.n c.in-Work.act)
+    (λ home past k. ap (λ (x : SiteHappening). unless_tripped home past x) (ap (of_give home past) c.in-Work.is ∙ give_work home past c.in-Work.tid c.in-Work.epoch c.in-Work.n c.in-Work.act)) (λ home past may. rw c.in-Work.is at may) c.work.ensures.answered
+
+pub returns-in-Work-clause-failed : goal.returns-in-Work-clause-failed
+returns-in-Work-clause-failed g c =
+    all_wanting g.E.LocalEngine.stands g.D.Disk.tells c.args.self.now c.work.new.self (g.D.Disk.seen c.args.disk.now) c.work.ensures.store (CanTakeMessage c.args.message) (Ev.Give c.args.message) c.work.result c.work.ensures.want c.work.ensures.memory
+
+pub returns-in-Work-clause-cause : goal.returns-in-Work-clause-cause
+returns-in-Work-clause-cause g c =
+    other_cause _ _ _ _ c.work.result (λ e. cc) refl c.work.ensures.want
+
+pub returns-in-Take-clause-answered : goal.returns-in-Take-clause-answered
+returns-in-Take-clause-answered g c =
+    all_answered g.E.LocalEngine.stands g.D.Disk.tells c.args.self.now c.take.new.self (g.D.Disk.seen c.args.disk.now) c.take.ensures.store (CanTakeTicket c.in-Take.tid) (CanTakeMessage c.args.message) (λ home past. of_take home past c.in-Take.tid c.in-Take.epoch c.in-Take.n) (λ home past. unless_tripped home past (of_give home past c.args.message)) c.take.result (λ home past. take_quiet home past c.in-Take.tid c.in-Take.epoch c.in-Take.n)
+    (λ home past k. ap (λ (x : SiteHappening). unless_tripped home past x) (ap (of_give home past) c.in-Take.is ∙ give_take home past c.in-Take.tid c.in-Take.epoch c.in-Take.n)) (λ home past may. rw c.in-Take.is at may) c.take.ensures.answered
+
+pub returns-in-Take-clause-failed : goal.returns-in-Take-clause-failed
+returns-in-Take-clause-failed g c =
+    all_wanting g.E.LocalEngine.stands g.D.Disk.tells c.args.self.now c.take.new.self (g.D.Disk.seen c.args.disk.now) c.take.ensures.store (CanTakeMessage c.args.message) (Ev.Give c.args.message) c.take.result c.take.ensures.want c.take.ensures.memory
+
+pub returns-in-Take-clause-cause : goal.returns-in-Take-clause-cause
+returns-in-Take-clause-cause g c =
+    other_cause _ _ _ _ c.take.result (λ e. cc) refl c.take.ensures.want

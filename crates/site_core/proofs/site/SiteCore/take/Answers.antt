@@ -5,19 +5,21 @@ use Rattle.fed_rules.specs.SitePast.{engine_lines, epoch_start}
 use Rattle.site_core.specs.declared.site.SiteCore.{SiteCore}
 use Rattle.site_core.specs.Operations.{taken_again}
 use Rattle.site_core.proofs.OperationLaws.{did_adds, did_is, next_is, next_line, next_live, next_ticketless, says_by, take_adds, take_goes, take_says, taken_by}
+use Rattle.site_core.proofs.Outcomes.{ok_with}
 use Rattle.site_core.proofs.OverLaws.{shut_made}
 use Rattle.site_core.proofs.RememberLaws.{adds_as, is_up_at}
 use Rattle.site_core.proofs.site.SiteCore.take.Goals as goal
 
 pub returns-in-Some-clause-answered : goal.returns-in-Some-clause-answered
-returns-in-Some-clause-answered g c = λ home past h may.
+returns-in-Some-clause-answered g c = ok_with _ c.did.result _ c.did.ensures
+    (λ home past h may.
     let core = c.args.self.now in
     let tid = c.args.tid in
     let u = is_up_at g.E.LocalEngine.stands core home past h.memory c.requires.up in
     let says = says_by (λ o j. taken_again o j c.args.epoch c.args.n) core.book home past tid _ core.epoch c.taken_again.result u.notes c.live.ensures u.epoch c.taken_again.ensures in
     adds_as g.E.LocalEngine.stands _ core home past _ _
     (take_says home past tid c.args.epoch c.args.n c.in-Some.reply (shut_made home past tid h.made may.apart) (says ∙ c.in-Some.is) ∙ did_is home past (To.Take tid c.args.epoch c.args.n) tid c.args.n c.in-Some.reply [])
-    (did_adds g.E.LocalEngine.stands core home past (To.Take tid c.args.epoch c.args.n) tid c.args.n c.in-Some.reply c.did.result h c.requires.up (λ u. refl) c.did.ensures)
+    (did_adds g.E.LocalEngine.stands core home past (To.Take tid c.args.epoch c.args.n) tid c.args.n c.in-Some.reply _ h c.requires.up (λ u. refl) refl))
 
 pub take-requires : goal.take-requires
 take-requires g c =
@@ -47,7 +49,8 @@ note_take-requires g c =
     record { live = ap is_some l.noted }
 
 pub returns-clause-answered : goal.returns-clause-answered
-returns-clause-answered g c = λ home past h may.
+returns-clause-answered g c = ok_with _ c.did-2.result _ c.did-2.ensures
+    (λ home past h may.
     let core = c.args.self.now in
     let tid = c.args.tid in
     let reply = c.in_ok-reply.reply in
@@ -58,5 +61,5 @@ returns-clause-answered g c = λ home past h may.
     let stood = c.in_ok-reply.ensures.answered (epoch_start home past) (engine_lines past) u.engine in
     let ruled = taken_by core.book home past tid reply l (g.met.E.LocalEngine.right _ _ _ stood) in
     adds_as g.E.LocalEngine.stands _ _ home past _ _ (next_line core.book home past tid c.args.epoch c.args.n l t ∙ next_is home past tid c.args.epoch c.args.n l.run reply ruled)
-    (take_adds g.E.LocalEngine.stands core _ home past tid c.args.epoch c.args.n reply c.did-2.result l h c.requires.up
-    (ap (λ b. let new : SiteCore _ = record core { engine = c.take.new.self; book = b } in new) c.note_take.ensures) stood c.did-2.ensures)
+    (take_adds g.E.LocalEngine.stands core _ home past tid c.args.epoch c.args.n reply _ l h c.requires.up
+    (ap (λ b. let new : SiteCore _ = record core { engine = c.take.new.self; book = b } in new) c.note_take.ensures) stood refl))
