@@ -13,6 +13,7 @@ mod Fits
 mod FoundDisks
 mod FoundPasts
 mod KnownAgain
+mod Made
 mod New
 mod Opened
 mod Roomed

@@ -1,5 +1,6 @@
 pub mod Found
 pub mod Pending
+pub mod Refusals
 pub mod Stands
 pub mod Steps
 pub mod Store

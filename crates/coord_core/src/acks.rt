@@ -6,7 +6,7 @@ ghost use Rattle.fed_rules.specs.CoordPast.{Decided, standing};
 ghost use Rattle.coord_core.specs.Stands.{Stands};
 ghost use Rattle.coord_core.specs.Steps.{CanStep, FailsOn, FailsWhere, SomePast, StepsOn, StepsWhere};
 
-use crate::coord::{CoordCore, silent};
+use crate::coord::{CoordCore, ignored, silent};
 use crate::ending::room_for;
 use actor_store::{Standing, StepErr};
 use fed_rules::{Answer, CoordEvent, CoordRecord, CoordStep};
@@ -66,7 +66,7 @@ impl<P: TakePolicy> CoordCore<P> {
         ensures cause { HasCauseOf StepErr.Disk (D.seen disk.old).faults (D.seen disk.new).faults result }
     {
         if !self.tables.awaits_ack(tid, site) {
-            return Ok(silent(alloc, Answer::Ignored));
+            return ignored(alloc);
         }
         match self.tables.known.answer(tid, Protocol::Nothing) {
             Said::Known(decision) => self.ack_known(alloc, disk, site, tid, decision),

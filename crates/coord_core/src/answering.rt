@@ -1,17 +1,20 @@
 //! The messages of sites.
-ghost use Rattle.std.specs.Prelude.{◌≡◌, Bool, true, IfErr, IfOk, IsTrue};
+ghost use Rattle.std.specs.Prelude.{◌≡◌, Bool, true, IfErr, IfOk, IsOkAnd, IsTrue};
 ghost use Rattle.mdb_base.specs.Counts.{HasCauseOf};
 ghost use Rattle.fed_rules.specs.CoordPast.{CoordPast};
-ghost use Rattle.global_exec.specs.Counted.{is_answer};
+ghost use Rattle.mdb_base.specs.Words.{holds_of};
+ghost use Rattle.global_exec.specs.Counted.{counts, is_answer};
+ghost use Rattle.global_exec.specs.Live.{live_of};
 ghost use Rattle.mdb_base.specs.declared.names.Tid.{Tid as TheTid};
 ghost use Rattle.global_exec.specs.Pasts.{IsAmong};
 ghost use Rattle.journal_disk.specs.Disk.{Seen};
 ghost use Rattle.coord_tables.specs.Replies.{CountsReply, reply_event};
+ghost use Rattle.coord_core.specs.Refusals.{is_refusal};
 ghost use Rattle.coord_core.specs.Stands.{Stands, Steps};
 ghost use Rattle.coord_core.specs.Steps.{CanStep, FailsOn, FailsWhere, SomePast, StepsOn, StepsWhere};
 ghost use Rattle.coord_tables.specs.Terms.{Terms, line_of};
 
-use crate::coord::{CoordCore, silent};
+use crate::coord::{CoordCore, ignored, says};
 use crate::sending::let_through;
 use actor_store::{Standing, StepErr};
 use coord_tables::{Taken, some_held};
@@ -58,16 +61,50 @@ impl<P: TakePolicy> CoordCore<P> {
     }
 
     /// A wait that counts fixes the epoch of its site.
-    fn take_wait(&mut self, alloc: Global, tid: Tid, taken: Taken) -> CoordStep
+    fn take_wait(&mut self, alloc: Global, tid: Tid, taken: Taken) -> Result<CoordStep, StepErr>
         requires up { self.old.store.standing ≡ Standing.Up }
-        ensures answered { (tells : Bool) (seen : Seen) (terms : Terms) (past : CoordPast) (by : TheTid) → taken.reply ≡ Reply.Wait by
+        ensures answered { IsOkAnd result (λ step. (tells : Bool) (seen : Seen) (terms : Terms) (past : CoordPast) (by : TheTid) → taken.reply ≡ Reply.Wait by
             → Stands P.policy tells self.old seen terms past → CountsReply tid taken terms past
-            → Steps P.policy tells 0 seen result self.new seen terms past (line_of terms past (reply_event tid taken)) }
+            → Steps P.policy tells 0 seen step self.new seen terms past (line_of terms past (reply_event tid taken))) }
     {
         self.tables
             .exec
             .take(tid, taken.site, taken.epoch, taken.n, taken.reply);
-        silent(alloc, Answer::TookWaits)
+        says(alloc, Answer::TookWaits)
+    }
+
+    /// A refusal or an Unknown that counts decides the attempt abort.
+    fn refuse<D: Disk>(
+        &mut self,
+        alloc: Global,
+        disk: &mut D,
+        tid: Tid,
+        taken: Taken,
+    ) -> Result<CoordStep, StepErr>
+        requires told { IsTrue D.tells }
+        requires up { self.old.store.standing ≡ Standing.Up }
+        requires refuses { is_refusal taken.reply ≡ true }
+        requires counts { holds_of (counts taken.site taken.epoch taken.n taken.reply) (live_of tid self.old.tables.exec) ≡ true }
+        requires may { SomePast (Stands P.policy D.tells self.old (D.seen disk.old)) (CountsReply tid taken) }
+        ensures answered { IfOk result (StepsWhere P.policy D.tells self.old (D.seen disk.old) self.new (D.seen disk.new) (CountsReply tid taken) (reply_event tid taken)) }
+        ensures failed { IfErr result (FailsWhere P.policy D.tells self.old (D.seen disk.old) self.new (D.seen disk.new) (CountsReply tid taken) (reply_event tid taken)) }
+        ensures cause { HasCauseOf StepErr.Disk (D.seen disk.old).faults (D.seen disk.new).faults result }
+    {
+        let site = taken.site;
+        match taken.reply {
+            Reply::Unknown => self.abort(alloc, disk, tid, Cause::Unknown { site }),
+            Reply::Refused(Why::Die { by }) => self.abort(
+                alloc,
+                disk,
+                tid,
+                Cause::Dies { site, by },
+            ),
+            Reply::Refused(Why::Late { by }) => {
+                self.abort(alloc, disk, tid, Cause::TooLate { site, by })
+            }
+            Reply::Refused(_) => unreachable!(),
+            Reply::Done | Reply::Value(_) | Reply::Ticket(_) | Reply::Wait { .. } => unreachable!(),
+        }
     }
 
     /// A reply of a site: where it doesn't count it is ignored.
@@ -90,31 +127,12 @@ impl<P: TakePolicy> CoordCore<P> {
             .exec
             .counts(tid, taken.site, taken.epoch, taken.n, taken.reply)
         {
-            return Ok(silent(alloc, Answer::Ignored));
+            return ignored(alloc);
         }
         match taken.reply {
             Reply::Done | Reply::Value(_) | Reply::Ticket(_) => self.go_on(alloc, disk, tid, taken),
-            Reply::Wait { .. } => Ok(self.take_wait(alloc, tid, taken)),
-            Reply::Unknown => self.abort(alloc, disk, tid, Cause::Unknown { site: taken.site }),
-            Reply::Refused(Why::Die { by }) => self.abort(
-                alloc,
-                disk,
-                tid,
-                Cause::Dies {
-                    site: taken.site,
-                    by,
-                },
-            ),
-            Reply::Refused(Why::Late { by }) => self.abort(
-                alloc,
-                disk,
-                tid,
-                Cause::TooLate {
-                    site: taken.site,
-                    by,
-                },
-            ),
-            Reply::Refused(_) => unreachable!(),
+            Reply::Wait { .. } => self.take_wait(alloc, tid, taken),
+            Reply::Refused(_) | Reply::Unknown => self.refuse(alloc, disk, tid, taken),
         }
     }
 
@@ -152,12 +170,7 @@ impl<P: TakePolicy> CoordCore<P> {
             ),
             FromSite::Vote { tid, yes } => self.vote(alloc, disk, site, tid, yes),
             FromSite::Ack { tid } => self.ack(alloc, disk, site, tid),
-            FromSite::Inquiry { tid } => {
-                let Ok(step) = self.inquire(alloc, site, tid) else {
-                    return Err(StepErr::Memory);
-                };
-                Ok(step)
-            }
+            FromSite::Inquiry { tid } => self.inquire(alloc, site, tid),
         }
     }
 }

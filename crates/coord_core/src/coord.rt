@@ -1,5 +1,5 @@
 //! The core of the coordinator and its step.
-ghost use Rattle.std.specs.Prelude.{◌≡◌, Bool, [], false, is_some, reverse, IfOk, IfErr, IsTrue};
+ghost use Rattle.std.specs.Prelude.{◌≡◌, Bool, [], false, is_some, reverse, IfOk, IfErr, IsOkAnd, IsTrue};
 ghost use Rattle.mdb_base.specs.Counts.{HasCauseOf};
 ghost use Rattle.mdb_base.specs.Words.{Each};
 ghost use Rattle.presumptions.specs.declared.Participant.{Participant as TheParticipant};
@@ -54,6 +54,27 @@ pub(crate) fn silent(alloc: Global, answer: Answer) -> CoordStep
     }
 }
 
+/// The same as the result of a step, which is always there.
+pub(crate) fn says(alloc: Global, answer: Answer) -> Result<CoordStep, StepErr>
+    ensures { IsOkAnd result (λ step. (step.answer ≡ answer) × (step.sends ≡ [])) }
+{
+    Ok(silent(alloc, answer))
+}
+
+/// A message is ignored.
+pub(crate) fn ignored(alloc: Global) -> Result<CoordStep, StepErr>
+    ensures { IsOkAnd result (λ step. (step.answer ≡ Answer.Ignored) × (step.sends ≡ [])) }
+{
+    says(alloc, Answer::Ignored)
+}
+
+/// A coordinator that is up is started.
+fn awake(alloc: Global) -> Result<CoordStep, StepErr>
+    ensures { IsOkAnd result (λ step. (step.answer ≡ Answer.Awake) × (step.sends ≡ [])) }
+{
+    says(alloc, Answer::Awake)
+}
+
 impl<P: TakePolicy> CoordCore<P> {
     /// A coordinator of these sites, which are of 1 to 8, to which nothing happened yet. Its disk has to be an empty one.
     pub fn new(alloc: Global, protocols: Participants, policy: P) -> Result<CoordCore<P>, Memory>
@@ -90,17 +111,14 @@ impl<P: TakePolicy> CoordCore<P> {
     {
         match self.store.standing {
             Standing::Up => match event {
-                CoordEvent::Fate(tx) => Ok(self.fate(alloc, tx)),
-                CoordEvent::Halt { cut } => Ok(self.halt(alloc, disk, cut)),
-                CoordEvent::Trip { calls, cut } => Ok(self.set_trip(alloc, calls, cut)),
-                CoordEvent::Back => Ok(silent(alloc, Answer::Awake)),
                 CoordEvent::Take { site, message } => self.take(alloc, disk, site, message),
-                CoordEvent::Go { tid, program } => match self.go(alloc, tid, program) {
-                    Ok(step) => Ok(step),
-                    Err(Memory) => Err(StepErr::Memory),
-                },
+                CoordEvent::Go { tid, program } => self.go(alloc, tid, program),
                 CoordEvent::Again(tid) => self.again(alloc, disk, tid),
                 CoordEvent::Late(tid) => self.late(alloc, disk, tid),
+                CoordEvent::Fate(tx) => self.fate(alloc, tx),
+                CoordEvent::Halt { cut } => self.halt(alloc, disk, cut),
+                CoordEvent::Trip { calls, cut } => self.set_trip(alloc, calls, cut),
+                CoordEvent::Back => awake(alloc),
                 CoordEvent::Check => self.check(alloc, disk),
             },
             Standing::Down | Standing::Failing => self.wait(alloc, disk, event),
@@ -186,29 +204,29 @@ impl<P: TakePolicy> CoordCore<P> {
         ensures cause { HasCauseOf StepErr.Disk (D.seen disk.old).faults (D.seen disk.new).faults result }
     {
         match event {
-            CoordEvent::Trip { calls, cut } => Ok(self.set_trip(alloc, calls, cut)),
+            CoordEvent::Trip { calls, cut } => self.set_trip(alloc, calls, cut),
             CoordEvent::Back => self.back(alloc, disk),
-            _ => Ok(silent(alloc, Answer::Down)),
+            _ => says(alloc, Answer::Down),
         }
     }
 
     /// Stops the coordinator with this cut.
-    fn halt<D: Disk>(&mut self, alloc: Global, disk: &mut D, cut: u64) -> CoordStep
+    fn halt<D: Disk>(&mut self, alloc: Global, disk: &mut D, cut: u64) -> Result<CoordStep, StepErr>
         requires told { IsTrue D.tells }
         requires up { self.old.store.standing ≡ Standing.Up }
         requires may { SomePast (Stands P.policy D.tells self.old (D.seen disk.old)) (CanStep (CoordEvent.Halt cut)) }
-        ensures answered { StepsOn P.policy D.tells self.old (D.seen disk.old) self.new (D.seen disk.new) (CoordEvent.Halt cut) result }
+        ensures answered { IsOkAnd result (StepsOn P.policy D.tells self.old (D.seen disk.old) self.new (D.seen disk.new) (CoordEvent.Halt cut)) }
         ensures faults { (D.seen disk.new).faults ≡ (D.seen disk.old).faults }
     {
         let kept = self.store.stop(disk, cut);
-        silent(alloc, Answer::Stopped(kept))
+        says(alloc, Answer::Stopped(kept))
     }
 
     /// Sets a trip; one of no calls disarms.
-    fn set_trip(&mut self, alloc: Global, calls: u32, cut: u64) -> CoordStep
-        ensures answered { (tells : Bool) (seen : Seen) → StepsOn P.policy tells self.old seen self.new seen (CoordEvent.Trip calls cut) result }
+    fn set_trip(&mut self, alloc: Global, calls: u32, cut: u64) -> Result<CoordStep, StepErr>
+        ensures answered { IsOkAnd result (λ step. (tells : Bool) (seen : Seen) → StepsOn P.policy tells self.old seen self.new seen (CoordEvent.Trip calls cut) step) }
     {
         self.store.set_trip(calls, cut);
-        silent(alloc, Answer::Set)
+        says(alloc, Answer::Set)
     }
 }

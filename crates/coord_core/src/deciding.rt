@@ -8,7 +8,7 @@ ghost use Rattle.coord_core.specs.Stands.{Fails, Stands, Steps, calls_for};
 ghost use Rattle.coord_core.specs.Steps.{CanStep, FailsOn, SomePast, StepsOn};
 ghost use Rattle.coord_tables.specs.Terms.{Terms, line_of};
 
-use crate::coord::{CoordCore, silent};
+use crate::coord::{CoordCore, says};
 use crate::ending::room_for;
 use actor_store::{Standing, StepErr};
 use fed_rules::{Answer, Cause, CoordEvent, CoordStep};
@@ -74,7 +74,7 @@ impl<P: TakePolicy> CoordCore<P> {
         if self.tables.is_open(tid) {
             self.abort(alloc, disk, tid, Cause::Late)
         } else {
-            Ok(silent(alloc, Answer::Idle))
+            says(alloc, Answer::Idle)
         }
     }
 }

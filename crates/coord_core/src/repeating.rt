@@ -9,7 +9,7 @@ ghost use Rattle.protocol_table.specs.Attempts.{lacks_ack, missing, participant_
 ghost use Rattle.coord_core.specs.Stands.{Holds, Stands};
 ghost use Rattle.coord_core.specs.Steps.{CanStep, EachPast, FailsOn, FailsWhere, SomePast, StepsOn, StepsWhere};
 
-use crate::coord::{CoordCore, silent};
+use crate::coord::{CoordCore, says};
 use crate::sending::let_through;
 use actor_store::{Standing, StepErr};
 use coord_tables::{decide_to, some_held};
@@ -47,18 +47,23 @@ fn missing_of(alloc: Global, known: &Known, decision: Decision) -> Result<Partic
 
 impl<P: TakePolicy> CoordCore<P> {
     /// Sends the decision again to those whose required acknowledgement is missing.
-    fn tell(&self, alloc: Global, tid: Tid, decision: Decision) -> Result<CoordStep, Memory>
+    fn tell(&self, alloc: Global, tid: Tid, decision: Decision) -> Result<CoordStep, StepErr>
         requires up { self.now.store.standing ≡ Standing.Up }
         requires may { SomePast (Holds P.policy self.now) (λ terms past. standing terms.protocols past tid ≡ Decided decision) }
         ensures answer { IfOk result (λ step. step.answer ≡ Answer.Only) }
         ensures sends { IfOk result (λ step. EachPast (Holds P.policy self.now) (λ terms past. standing terms.protocols past tid ≡ Decided decision
             → step.sends ≡ rules_decide_to tid decision (rules_missing terms.protocols past tid decision))) }
+        ensures why { IfErr result (λ why. why ≡ StepErr.Memory) }
     {
         match self.tables.known.known(tid) {
             None => unreachable!(),
             Some(known) => {
-                let members = missing_of(alloc, known, decision)?;
-                let sends = decide_to(alloc, tid, decision, &members)?;
+                let Ok(members) = missing_of(alloc, known, decision) else {
+                    return Err(StepErr::Memory);
+                };
+                let Ok(sends) = decide_to(alloc, tid, decision, &members) else {
+                    return Err(StepErr::Memory);
+                };
                 Ok(CoordStep {
                     answer: Answer::Only,
                     sends,
@@ -113,11 +118,8 @@ impl<P: TakePolicy> CoordCore<P> {
     {
         match self.tables.known.answer(tid, Protocol::Nothing) {
             Said::Undecided => self.send_all(alloc, disk, tid),
-            Said::Known(decision) => match self.tell(alloc, tid, decision) {
-                Ok(step) => Ok(step),
-                Err(Memory) => Err(StepErr::Memory),
-            },
-            Said::Presumed(_) => Ok(silent(alloc, Answer::Idle)),
+            Said::Known(decision) => self.tell(alloc, tid, decision),
+            Said::Presumed(_) => says(alloc, Answer::Idle),
         }
     }
 }

@@ -1,5 +1,5 @@
 //! Votes of sites.
-ghost use Rattle.std.specs.Prelude.{Bool, ◌≡◌, None, Some, IfErr, IfOk, IfSome, IsSome, IsTrue, OnOk};
+ghost use Rattle.std.specs.Prelude.{Bool, ◌≡◌, None, Some, IfErr, IfOk, IfSome, IsOkAnd, IsSome, IsTrue, OnOk};
 ghost use Rattle.mdb_base.specs.Counts.{HasCauseOf};
 ghost use Rattle.journal_disk.specs.Disk.{Seen};
 ghost use Rattle.journal_disk.specs.Frames.{IsPayload};
@@ -16,7 +16,7 @@ ghost use Rattle.coord_tables.specs.Trees.{entry_of};
 ghost use Rattle.coord_tables.specs.Voting as spec;
 ghost use Rattle.coord_tables.specs.Voting.{CountsVote, IsLastVote, vote_event};
 
-use crate::coord::{CoordCore, silent};
+use crate::coord::{CoordCore, ignored, says};
 use crate::ending::room_for;
 use actor_store::{Standing, StepErr};
 use fed_rules::{Answer, Cause, CoordEvent, CoordRecord, CoordStep};
@@ -37,14 +37,20 @@ fn same_tickets(alloc: Global, tickets: &Tickets) -> Result<Tickets, Memory>
 
 impl<P: TakePolicy> CoordCore<P> {
     /// A yes vote that counts, and isn't the last one.
-    fn note_vote(&mut self, alloc: Global, site: SiteId, tid: Tid, ticket: u64) -> CoordStep
+    fn note_vote(
+        &mut self,
+        alloc: Global,
+        site: SiteId,
+        tid: Tid,
+        ticket: u64,
+    ) -> Result<CoordStep, StepErr>
         requires up { self.old.store.standing ≡ Standing.Up }
-        ensures answered { (tells : Bool) (seen : Seen) (terms : Terms) (past : CoordPast) → Stands P.policy tells self.old seen terms past
+        ensures answered { IsOkAnd result (λ step. (tells : Bool) (seen : Seen) (terms : Terms) (past : CoordPast) → Stands P.policy tells self.old seen terms past
             → CountsVote site tid terms past → spec.last_tickets terms.protocols past site tid ticket ≡ None
-            → Steps P.policy tells 0 seen result self.new seen terms past (line_of terms past (vote_event site tid (Some ticket))) }
+            → Steps P.policy tells 0 seen step self.new seen terms past (line_of terms past (vote_event site tid (Some ticket)))) }
     {
         self.tables.vote(site, tid, ticket);
-        silent(alloc, Answer::Voted)
+        says(alloc, Answer::Voted)
     }
 
     /// Makes room for the Commit of one attempt.
@@ -136,7 +142,7 @@ impl<P: TakePolicy> CoordCore<P> {
             return Err(StepErr::Memory);
         };
         match last {
-            None => Ok(self.note_vote(alloc, site, tid, ticket)),
+            None => self.note_vote(alloc, site, tid, ticket),
             Some(tickets) => self.last_vote(alloc, disk, site, tid, ticket, &tickets),
         }
     }
@@ -159,7 +165,7 @@ impl<P: TakePolicy> CoordCore<P> {
         ensures cause { HasCauseOf StepErr.Disk (D.seen disk.old).faults (D.seen disk.new).faults result }
     {
         if !self.tables.exec.awaits_vote(tid, site) {
-            return Ok(silent(alloc, Answer::Ignored));
+            return ignored(alloc);
         }
         match yes {
             None => self.abort(alloc, disk, tid, Cause::No { site }),

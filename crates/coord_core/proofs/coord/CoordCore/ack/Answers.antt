@@ -9,16 +9,23 @@ use Rattle.fed_rules.specs.CoordPast.{standing}
 use Rattle.protocol_table.specs.Attempts.{known_of}
 use Rattle.coord_tables.proofs.ForCallers.{ack_ignored, counted_presumed, counted_undecided, said_told, stands_decided, uncounted_calm}
 use Rattle.coord_core.proofs.Events.{calm_steps}
+use Rattle.coord_core.proofs.Made.{made_cause, made_err, made_ok}
 use Rattle.coord_core.proofs.Still.{serves}
 use Rattle.coord_core.proofs.coord.CoordCore.ack.Goals as goal
 
 pub returns-then-not-awaits_ack-clause-answered : goal.returns-then-not-awaits_ack-clause-answered
-returns-then-not-awaits_ack-clause-answered g c = λ terms past k can.
+returns-then-not-awaits_ack-clause-answered g c = made_ok _ _ c.ignored.result c.ignored.ensures (λ step told terms past k can.
     let s = serves g.P.TakePolicy.policy g.D.Disk.tells c.args.self.now terms past k.holds c.requires.up in
-    calm_steps g.P.TakePolicy.policy g.D.Disk.tells c.silent.result c.args.self.now c.args.self.now (g.D.Disk.seen c.args.disk.now) terms past (Ev.Take c.args.site (From.Ack c.args.tid))
+    calm_steps g.P.TakePolicy.policy g.D.Disk.tells step c.args.self.now c.args.self.now (g.D.Disk.seen c.args.disk.now) terms past (Ev.Take c.args.site (From.Ack c.args.tid))
     (quiet (Ev.Take c.args.site (From.Ack c.args.tid)) Say.Ignored) k c.requires.up can tt
     (ack_ignored c.args.self.now.tables terms past c.args.site c.args.tid s (sym c.awaits_ack.ensures ∙ c.if-not-awaits_ack.true)) refl
-    (uncounted_calm (Ev.Take c.args.site (From.Ack c.args.tid)) Say.Ignored tt refl) (record { answer = c.silent.ensures.answer; sends = c.silent.ensures.sends }) refl
+    (uncounted_calm (Ev.Take c.args.site (From.Ack c.args.tid)) Say.Ignored tt refl) (record { answer = told.0; sends = told.1 }) refl)
+
+pub returns-then-not-awaits_ack-clause-failed : goal.returns-then-not-awaits_ack-clause-failed
+returns-then-not-awaits_ack-clause-failed g c = made_err _ _ c.ignored.result c.ignored.ensures
+
+pub returns-then-not-awaits_ack-clause-cause : goal.returns-then-not-awaits_ack-clause-cause
+returns-then-not-awaits_ack-clause-cause g c = made_cause _ _ _ c.ignored.result refl c.ignored.ensures
 
 pub ack_known-requires-clause-may : goal.ack_known-requires-clause-may
 ack_known-requires-clause-may g c =

@@ -1,9 +1,11 @@
-use Rattle.std.proofs.Common.{◌+◌, sym, subst}
+use Rattle.std.proofs.Common.{◌+◌, refl, sym, subst}
 use Rattle.mdb_base.proofs.ForCallers.{map_err, map_ok}
 use Rattle.fed_rules.specs.declared.events.CoordEvent.TheVariants as Ev
 use Rattle.fed_rules.specs.declared.messages.FromSite.{FromSite}
 use Rattle.coord_core.specs.Stands.{Fails, Steps, calls_for}
 use Rattle.coord_tables.specs.Terms.{line_of}
+use Rattle.journal_disk.proofs.ForCallers.{none_at_most}
+use Rattle.coord_core.proofs.Made.{want_anyway, want_cause}
 use Rattle.coord_core.proofs.Taking.{inquiry_steps}
 use Rattle.coord_core.proofs.coord.CoordCore.take.Goals as goal
 
@@ -52,8 +54,15 @@ returns-in-Ack-clause-failed g c = map_err _ _ c.ack.result c.ack.ensures.failed
     subst (λ (f : FromSite). Fails g.P.TakePolicy.policy g.D.Disk.tells (0 + calls_for terms past (Ev.Take c.args.site f)) (g.D.Disk.seen c.args.disk.now) why c.ack.new.self (g.D.Disk.seen c.ack.new.disk) terms past (Ev.Take c.args.site f)) (sym c.in-Ack.is)
     (each terms past k can))
 
-pub returns-in-Ok-clause-answered : goal.returns-in-Ok-clause-answered
-returns-in-Ok-clause-answered g c = λ terms past k can.
-    subst (λ (f : FromSite). Steps g.P.TakePolicy.policy g.D.Disk.tells 0 (g.D.Disk.seen c.args.disk.now) c.in-Ok.step c.args.self.now (g.D.Disk.seen c.args.disk.now) terms past (line_of terms past (Ev.Take c.args.site f))) (sym c.in-Inquiry.is)
-    (inquiry_steps g.P.TakePolicy.policy g.D.Disk.tells c.in-Ok.step c.args.self.now (g.D.Disk.seen c.args.disk.now) terms past c.args.site c.in-Inquiry.tid k c.requires.up
-    can (c.in-Ok.ensures terms past k.holds))
+pub returns-in-Inquiry-clause-answered : goal.returns-in-Inquiry-clause-answered
+returns-in-Inquiry-clause-answered g c = map_ok _ _ c.inquire.result c.inquire.ensures.says (λ step says terms past k can.
+    subst (λ (f : FromSite). Steps g.P.TakePolicy.policy g.D.Disk.tells 0 (g.D.Disk.seen c.args.disk.now) step c.args.self.now (g.D.Disk.seen c.args.disk.now) terms past (line_of terms past (Ev.Take c.args.site f))) (sym c.in-Inquiry.is)
+    (inquiry_steps g.P.TakePolicy.policy g.D.Disk.tells step c.args.self.now (g.D.Disk.seen c.args.disk.now) terms past c.args.site c.in-Inquiry.tid k c.requires.up
+    can (says terms past k.holds)))
+
+pub returns-in-Inquiry-clause-failed : goal.returns-in-Inquiry-clause-failed
+returns-in-Inquiry-clause-failed g c = want_anyway _ c.inquire.result c.inquire.ensures.why (λ terms past k can.
+    (k, none_at_most (0 + calls_for terms past (Ev.Take c.args.site c.args.message)) (g.D.Disk.seen c.args.disk.now) (g.D.Disk.seen c.args.disk.now) refl))
+
+pub returns-in-Inquiry-clause-cause : goal.returns-in-Inquiry-clause-cause
+returns-in-Inquiry-clause-cause g c = want_cause _ c.inquire.result c.inquire.ensures.why

@@ -18,5 +18,5 @@ pub returns-clause-sends : goal.returns-clause-sends
 returns-clause-sends g c = λ terms past h st.
     let s = serves g.P.TakePolicy.policy true c.args.self.now terms past h c.requires.up in
     let k = decided_some c.args.self.now.tables terms past c.args.tid c.args.decision c.in-Some.known.now s st (sym c.known.ensures ∙ ap option_copied c.in-Some.is) in
-    c.in_ok-sends-in-Some.ensures
-    ∙ ap (λ (ps : List Participant). decide_to c.args.tid c.args.decision ps) (c.in_ok-members-in-Some.ensures ∙ missing_is terms past c.args.tid c.args.decision c.in-Some.known.now k)
+    c.in-Ok-decide_to.ensures
+    ∙ ap (λ (ps : List Participant). decide_to c.args.tid c.args.decision ps) (c.in-Ok.ensures ∙ missing_is terms past c.args.tid c.args.decision c.in-Some.known.now k)

@@ -1,17 +1,24 @@
-use Rattle.std.proofs.Common.{ℕ, ◌+◌, Option, sym, subst, ◌∙◌}
+use Rattle.std.proofs.Common.{ℕ, ◌+◌, Option, refl, sym, subst, ◌∙◌}
 use Rattle.mdb_base.proofs.ForCallers.{map_err, map_ok}
 use Rattle.coord_core.specs.Stands.{Fails, Steps, calls_for}
 use Rattle.coord_tables.specs.Terms.{line_of}
 use Rattle.coord_tables.specs.Voting.{vote_event}
 use Rattle.coord_tables.proofs.ForCallers.{no_aborting, vote_open}
+use Rattle.coord_core.proofs.Made.{made_cause, made_err, made_ok}
 use Rattle.coord_core.proofs.Voting.{ignored_vote_steps, vote_counted_as}
 use Rattle.coord_core.proofs.coord.CoordCore.vote.Goals as goal
 
 pub returns-then-not-awaits_vote-clause-answered : goal.returns-then-not-awaits_vote-clause-answered
-returns-then-not-awaits_vote-clause-answered g c = λ terms past k among.
-    ignored_vote_steps g.P.TakePolicy.policy g.D.Disk.tells c.silent.result c.args.self.now (g.D.Disk.seen c.args.disk.now) terms past c.args.site c.args.tid c.args.yes k c.requires.up among
+returns-then-not-awaits_vote-clause-answered g c = made_ok _ _ c.ignored.result c.ignored.ensures (λ step said terms past k among.
+    ignored_vote_steps g.P.TakePolicy.policy g.D.Disk.tells step c.args.self.now (g.D.Disk.seen c.args.disk.now) terms past c.args.site c.args.tid c.args.yes k c.requires.up among
     (vote_counted_as g.P.TakePolicy.policy g.D.Disk.tells c.args.self.now (g.D.Disk.seen c.args.disk.now) terms past c.args.site c.args.tid c.awaits_vote.result k c.requires.up among c.awaits_vote.ensures ∙ c.if-not-awaits_vote.true)
-    c.silent.ensures.answer c.silent.ensures.sends
+    said.0 said.1)
+
+pub returns-then-not-awaits_vote-clause-failed : goal.returns-then-not-awaits_vote-clause-failed
+returns-then-not-awaits_vote-clause-failed g c = made_err _ _ c.ignored.result c.ignored.ensures
+
+pub returns-then-not-awaits_vote-clause-cause : goal.returns-then-not-awaits_vote-clause-cause
+returns-then-not-awaits_vote-clause-cause g c = made_cause _ _ _ c.ignored.result refl c.ignored.ensures
 
 pub abort-requires-clause-may : goal.abort-requires-clause-may
 abort-requires-clause-may g c =

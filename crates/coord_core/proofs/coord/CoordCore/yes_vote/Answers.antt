@@ -1,5 +1,6 @@
-use Rattle.std.proofs.Common.{sym, ◌∙◌}
+use Rattle.std.proofs.Common.{refl, sym, ◌∙◌}
 use Rattle.mdb_base.proofs.ForCallers.{map_err, map_ok}
+use Rattle.coord_core.proofs.Made.{made_cause, made_err, made_ok}
 use Rattle.coord_core.proofs.Still.{serves}
 use Rattle.coord_tables.proofs.ForCallers.{vote_open}
 use Rattle.coord_core.proofs.coord.CoordCore.yes_vote.Goals as goal
@@ -22,9 +23,15 @@ last_vote-requires-clause-may g c =
     record { terms = m.terms; past = m.past; stood = m.stood; holds = record { counted = m.holds; last = sym (c.in-Ok.ensures m.terms m.past m.stood.holds.sound s m.holds) ∙ c.in-Some.is } }
 
 pub returns-in-None-clause-answered : goal.returns-in-None-clause-answered
-returns-in-None-clause-answered g c = λ terms past k n.
+returns-in-None-clause-answered g c = made_ok _ _ c.note_vote.result c.note_vote.ensures.answered (λ step each terms past k n.
     let s = serves g.P.TakePolicy.policy g.D.Disk.tells c.args.self.now terms past k.holds c.requires.up in
-    c.note_vote.ensures.answered g.D.Disk.tells (g.D.Disk.seen c.args.disk.now) terms past k n (sym (c.in-Ok.ensures terms past k.holds.sound s n) ∙ c.in-None.is)
+    each g.D.Disk.tells (g.D.Disk.seen c.args.disk.now) terms past k n (sym (c.in-Ok.ensures terms past k.holds.sound s n) ∙ c.in-None.is))
+
+pub returns-in-None-clause-failed : goal.returns-in-None-clause-failed
+returns-in-None-clause-failed g c = made_err _ _ c.note_vote.result c.note_vote.ensures.answered
+
+pub returns-in-None-clause-cause : goal.returns-in-None-clause-cause
+returns-in-None-clause-cause g c = made_cause _ _ _ c.note_vote.result refl c.note_vote.ensures.answered
 
 pub returns-in-Some-clause-answered : goal.returns-in-Some-clause-answered
 returns-in-Some-clause-answered g c = map_ok _ _ c.last_vote.result c.last_vote.ensures.answered (λ step each terms past k n.
