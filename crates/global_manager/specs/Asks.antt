@@ -1,4 +1,5 @@
 -- What is asked of the coordinator, as a request over its programs and its past.
+use Rattle.std.specs.Prelude.{Bool, true, false}
 use Rattle.fed_rules.specs.declared.events.CoordEvent.{CoordEvent}
 use Rattle.fed_rules.specs.declared.events.CoordEvent.TheVariants as Ev
 use Rattle.fed_rules.specs.declared.events.CoordStep.{CoordStep}
@@ -28,6 +29,14 @@ coord_request Coord.Check terms programs past = Submits Ev.Check
 abbrev pub CanAsk : CoordAsk → Terms → OwnPrograms → CoordPast → Type 0
 CanAsk (Coord.Take site message) terms programs past = IsAmong site terms.protocols
 CanAsk ask terms programs past = Unit {0}
+
+-- an operator asks it: it goes to the core as it is, whatever the past
+abbrev pub is_operation : CoordAsk → Bool
+is_operation (Coord.Halt cut) = true
+is_operation (Coord.Trip calls cut) = true
+is_operation Coord.Back = true
+is_operation Coord.Check = true
+is_operation ask = false
 
 -- what comes of it, from what the manager stood for before to what it stands for after
 module _ (before after : Terms → OwnPrograms → CoordPast → Type 0) (ask : CoordAsk) where

@@ -29,8 +29,6 @@ use Rattle.coord_core.specs.Stands.{Holds, Stands as CoreStands, stopped_before,
 use Rattle.coord_core.specs.Steps.{CanStep}
 use Rattle.coord_tables.specs.Terms.{Terms, line_of}
 use Rattle.global_manager.specs.declared.manager.GlobalManager.{GlobalManager}
-use Rattle.global_manager.specs.declared.requests.Request.{Request as Asked}
-use Rattle.global_manager.specs.declared.requests.Request.TheVariants as Asked_is
 
 -- a `go` is of the next attempt of a global transaction, of at most 32, with its program
 pub record IsNextAttempt (programs : OwnPrograms) (past : CoordPast) (tid : Tid) (steps : List Step) : Type 0 where
@@ -120,16 +118,6 @@ Fails K Err_is.Disk terms programs past (Declines answer) = ⊥
 -- the event may be submitted to the core, and fits the programs
 abbrev pub CanSubmit : CoordEvent → Terms → OwnPrograms → CoordPast → Type 0
 CanSubmit event terms programs past = CanStep event terms past × FitsPrograms programs past event
-
--- what is asked may be served
-abbrev pub CanServe : Asked → Terms → OwnPrograms → CoordPast → Type 0
-CanServe (Asked_is.Submits event) terms programs past = CanSubmit event terms programs past
-CanServe (Asked_is.Declines answer) terms programs past = Unit {0}
-
--- the request of the rules
-abbrev pub request_of : Asked → Request CoordEvent
-request_of (Asked_is.Submits event) = Submits event
-request_of (Asked_is.Declines answer) = Declines answer
 
 -- the program of a line, where its transaction is global
 abbrev pub program_at : Option TxLine → Option (List Step)

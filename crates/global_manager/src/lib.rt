@@ -6,6 +6,7 @@
 mod asks;
 mod looks;
 mod manager;
+mod operations;
 mod programs;
 mod requests;
 

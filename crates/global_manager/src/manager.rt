@@ -15,9 +15,8 @@ ghost use Rattle.global_manager.specs.Stands.{EachManaged, IsDeclared, Recalls, 
 
 use crate::asks::CoordAsk;
 use crate::programs::programs_of;
-use crate::requests::Request;
 use coord_core::{CoordCore, StepErr};
-use fed_rules::{Answer, CoordStep, Sends, TxLine};
+use fed_rules::{CoordEvent, CoordStep, TxLine};
 use global_exec::TakePolicy;
 use journal_disk::Disk;
 use mdb_base::{Memory, Program, Tx};
@@ -30,17 +29,6 @@ use std::collections::BTreeMap;
 pub struct GlobalManager<P: TakePolicy> {
     pub(crate) core: CoordCore<P>,
     pub(crate) programs: BTreeMap<Tx, Program>,
-}
-
-/// An answer without an event, which sends nothing.
-fn declined(alloc: Global, answer: Answer) -> CoordStep
-    ensures answer { result.answer ≡ answer }
-    ensures sends { result.sends ≡ [] }
-{
-    CoordStep {
-        answer,
-        sends: Sends::of(Vec::new(alloc)),
-    }
 }
 
 impl<P: TakePolicy> GlobalManager<P> {
@@ -109,12 +97,18 @@ impl<P: TakePolicy> GlobalManager<P> {
         ensures failed { IfErr result (FailsOn (Stands P.policy D.tells self.old (D.seen disk.old)) (Stands P.policy D.tells self.new (D.seen disk.new)) ask) }
         ensures cause { HasCauseOf StepErr.Disk (D.seen disk.old).faults (D.seen disk.new).faults result }
     {
-        let Ok(request) = self.requested(ask) else {
-            return Err(StepErr::Memory);
-        };
-        match request {
-            Request::Declines(answer) => Ok(declined(alloc, answer)),
-            Request::Submits(event) => self.core.step(alloc, disk, event),
+        match ask {
+            CoordAsk::Take { site, message } => {
+                self.core
+                    .step(alloc, disk, CoordEvent::Take { site, message })
+            }
+            CoordAsk::Go(tx) => self.go(alloc, disk, tx),
+            CoordAsk::Fate(tx) => self.fate(alloc, disk, tx),
+            CoordAsk::Again(tid) => self.again(alloc, disk, tid),
+            CoordAsk::Late(tid) => self.late(alloc, disk, tid),
+            CoordAsk::Halt { .. } | CoordAsk::Trip { .. } | CoordAsk::Back | CoordAsk::Check => {
+                self.operate(alloc, disk, &ask)
+            }
         }
     }
 }

@@ -1,55 +1,41 @@
-//! What is asked of a global transaction manager, as a request to its core.
-ghost use Rattle.std.specs.Prelude.{◌≡◌, IfOk, List};
+//! What is asked of a global transaction manager that it looks up before it submits an event to its core.
+ghost use Rattle.std.specs.Prelude.{◌≡◌, [], IfErr, IfOk, IsOkAnd, IsTrue, List};
+ghost use Rattle.mdb_base.specs.Counts.{HasCauseOf};
 ghost use Rattle.mdb_base.specs.declared.acts.Step.{Step as TheStep};
 ghost use Rattle.mdb_base.specs.declared.names.Tid.{Tid as TheTid};
 ghost use Rattle.mdb_base.specs.Names.{same_tid};
 ghost use Rattle.mdb_base.specs.Words.{some_of};
 ghost use Rattle.fed_rules.specs.declared.events.CoordEvent.TheVariants as Ev;
-ghost use Rattle.fed_rules.specs.CoordCommands.{attempt_request, fate_request, go_request};
 ghost use Rattle.fed_rules.specs.CoordPast.{begun_tids};
 ghost use Rattle.fed_rules.specs.Requests.{unless_begun};
 ghost use Rattle.coord_tables.specs.Terms.{line_of};
-ghost use Rattle.global_manager.specs.Asks.{CanAsk, coord_request};
-ghost use Rattle.global_manager.specs.Stands.{CanServe, EachManaged, Recalls, request_of};
+ghost use Rattle.global_manager.specs.Asks.{CanAsk, FailsOn, ServesOn};
+ghost use Rattle.global_manager.specs.Stands.{EachManaged, Recalls, SomeManaged, Stands};
 
 use crate::asks::CoordAsk;
 use crate::manager::GlobalManager;
 use crate::programs::find;
-use fed_rules::{Answer, CoordEvent};
+use coord_core::StepErr;
+use fed_rules::{Answer, CoordEvent, CoordStep, Sends};
 use global_exec::TakePolicy;
-use mdb_base::{Memory, Tid, Tx};
+use journal_disk::Disk;
+use mdb_base::{Tid, Tx};
+use std::alloc::Global;
 
 /// How many attempts a transaction has.
 const MOST_ATTEMPTS: u8 = 32;
 
-/// An event that the core answers, or an answer without one, which changes nothing.
-#[derive(Drop)]
-pub(crate) enum Request {
-    Submits(CoordEvent),
-    Declines(Answer),
+/// An answer without an event, which sends nothing.
+fn declined(alloc: Global, answer: Answer) -> Result<CoordStep, StepErr>
+    ensures { IsOkAnd result (λ step. (step.answer ≡ answer) × (step.sends ≡ [])) }
+{
+    Ok(CoordStep {
+        answer,
+        sends: Sends::of(Vec::new(alloc)),
+    })
 }
 
 impl<P: TakePolicy> GlobalManager<P> {
-    /// What is asked comes to this. A `go` takes memory for its program.
-    pub(crate) fn requested(&self, ask: CoordAsk) -> Result<Request, Memory>
-        ensures asked { IfOk result (λ request. EachManaged (Recalls P.policy self.now) (λ terms programs past. request_of request ≡ coord_request ask terms programs past)) }
-        ensures may { IfOk result (λ request. EachManaged (Recalls P.policy self.now) (λ terms programs past. CanAsk ask terms programs past → CanServe request terms programs past)) }
-    {
-        match ask {
-            CoordAsk::Go(tx) => self.asks_go(tx),
-            CoordAsk::Fate(tx) => Ok(self.asks_fate(tx)),
-            CoordAsk::Again(tid) => Ok(self.asks_again(tid)),
-            CoordAsk::Late(tid) => Ok(self.asks_late(tid)),
-            CoordAsk::Take { site, message } => {
-                Ok(Request::Submits(CoordEvent::Take { site, message }))
-            }
-            CoordAsk::Halt { cut } => Ok(Request::Submits(CoordEvent::Halt { cut })),
-            CoordAsk::Trip { calls, cut } => Ok(Request::Submits(CoordEvent::Trip { calls, cut })),
-            CoordAsk::Back => Ok(Request::Submits(CoordEvent::Back)),
-            CoordAsk::Check => Ok(Request::Submits(CoordEvent::Check)),
-        }
-    }
-
     /// What a `go` behind the last attempt of a transaction is answered: what the rule says to a `go`, but spent where one more attempt would
     /// begin.
     pub(crate) fn spent(&self, tx: Tx) -> Answer
@@ -68,56 +54,90 @@ impl<P: TakePolicy> GlobalManager<P> {
         Answer::Spent
     }
 
-    /// What `go` comes to.
-    fn asks_go(&self, tx: Tx) -> Result<Request, Memory>
-        ensures asked { IfOk result (λ request. EachManaged (Recalls P.policy self.now) (λ terms programs past.
-            request_of request ≡ go_request terms.protocols terms.policy (programs tx) past tx)) }
-        ensures may { IfOk result (λ request. EachManaged (Recalls P.policy self.now) (λ terms programs past. CanServe request terms programs past)) }
+    /// Answers `go`: the next attempt of a global transaction is submitted with its program, unless all were begun.
+    pub(crate) fn go<D: Disk>(
+        &mut self,
+        alloc: Global,
+        disk: &mut D,
+        tx: Tx,
+    ) -> Result<CoordStep, StepErr>
+        requires told { IsTrue D.tells }
+        requires stood { SomeManaged (Stands P.policy D.tells self.old (D.seen disk.old)) (CanAsk (CoordAsk.Go tx)) }
+        ensures served { IfOk result (ServesOn (Stands P.policy D.tells self.old (D.seen disk.old)) (Stands P.policy D.tells self.new (D.seen disk.new)) (CoordAsk.Go tx)) }
+        ensures failed { IfErr result (FailsOn (Stands P.policy D.tells self.old (D.seen disk.old)) (Stands P.policy D.tells self.new (D.seen disk.new)) (CoordAsk.Go tx)) }
+        ensures cause { HasCauseOf StepErr.Disk (D.seen disk.old).faults (D.seen disk.new).faults result }
     {
         let Some(program) = find(&self.programs, tx) else {
-            return Ok(Request::Declines(Answer::None));
+            return declined(alloc, Answer::None);
         };
         let begun = self.core.begun(tx);
         if begun >= MOST_ATTEMPTS {
-            return Ok(Request::Declines(self.spent(tx)));
+            let answer = self.spent(tx);
+            return declined(alloc, answer);
         }
-        let program = program.clone()?;
+        let Ok(program) = program.clone() else {
+            return Err(StepErr::Memory);
+        };
         let tid = Tid { tx, attempt: begun };
-        Ok(Request::Submits(CoordEvent::Go { tid, program }))
+        self.core.step(alloc, disk, CoordEvent::Go { tid, program })
     }
 
-    /// What `fate` comes to.
-    fn asks_fate(&self, tx: Tx) -> Request
-        ensures asked { EachManaged (Recalls P.policy self.now) (λ terms programs past. request_of result ≡ fate_request (programs tx) tx) }
-        ensures may { EachManaged (Recalls P.policy self.now) (λ terms programs past. CanServe result terms programs past) }
+    /// Answers `fate`.
+    pub(crate) fn fate<D: Disk>(
+        &mut self,
+        alloc: Global,
+        disk: &mut D,
+        tx: Tx,
+    ) -> Result<CoordStep, StepErr>
+        requires told { IsTrue D.tells }
+        requires stood { SomeManaged (Stands P.policy D.tells self.old (D.seen disk.old)) (CanAsk (CoordAsk.Fate tx)) }
+        ensures served { IfOk result (ServesOn (Stands P.policy D.tells self.old (D.seen disk.old)) (Stands P.policy D.tells self.new (D.seen disk.new)) (CoordAsk.Fate tx)) }
+        ensures failed { IfErr result (FailsOn (Stands P.policy D.tells self.old (D.seen disk.old)) (Stands P.policy D.tells self.new (D.seen disk.new)) (CoordAsk.Fate tx)) }
+        ensures cause { HasCauseOf StepErr.Disk (D.seen disk.old).faults (D.seen disk.new).faults result }
     {
         match find(&self.programs, tx) {
-            Some(_) => Request::Submits(CoordEvent::Fate(tx)),
-            None => Request::Declines(Answer::None),
+            Some(_) => self.core.step(alloc, disk, CoordEvent::Fate(tx)),
+            None => declined(alloc, Answer::None),
         }
     }
 
-    /// What `again` comes to.
-    fn asks_again(&self, tid: Tid) -> Request
-        ensures asked { EachManaged (Recalls P.policy self.now) (λ terms programs past. request_of result ≡ attempt_request past tid (Ev.Again tid)) }
-        ensures may { EachManaged (Recalls P.policy self.now) (λ terms programs past. CanServe result terms programs past) }
+    /// Answers `again`.
+    pub(crate) fn again<D: Disk>(
+        &mut self,
+        alloc: Global,
+        disk: &mut D,
+        tid: Tid,
+    ) -> Result<CoordStep, StepErr>
+        requires told { IsTrue D.tells }
+        requires stood { SomeManaged (Stands P.policy D.tells self.old (D.seen disk.old)) (CanAsk (CoordAsk.Again tid)) }
+        ensures served { IfOk result (ServesOn (Stands P.policy D.tells self.old (D.seen disk.old)) (Stands P.policy D.tells self.new (D.seen disk.new)) (CoordAsk.Again tid)) }
+        ensures failed { IfErr result (FailsOn (Stands P.policy D.tells self.old (D.seen disk.old)) (Stands P.policy D.tells self.new (D.seen disk.new)) (CoordAsk.Again tid)) }
+        ensures cause { HasCauseOf StepErr.Disk (D.seen disk.old).faults (D.seen disk.new).faults result }
     {
         if self.was_begun(tid) {
-            Request::Submits(CoordEvent::Again(tid))
+            self.core.step(alloc, disk, CoordEvent::Again(tid))
         } else {
-            Request::Declines(Answer::None)
+            declined(alloc, Answer::None)
         }
     }
 
-    /// What `late` comes to.
-    fn asks_late(&self, tid: Tid) -> Request
-        ensures asked { EachManaged (Recalls P.policy self.now) (λ terms programs past. request_of result ≡ attempt_request past tid (Ev.Late tid)) }
-        ensures may { EachManaged (Recalls P.policy self.now) (λ terms programs past. CanServe result terms programs past) }
+    /// Answers `late`.
+    pub(crate) fn late<D: Disk>(
+        &mut self,
+        alloc: Global,
+        disk: &mut D,
+        tid: Tid,
+    ) -> Result<CoordStep, StepErr>
+        requires told { IsTrue D.tells }
+        requires stood { SomeManaged (Stands P.policy D.tells self.old (D.seen disk.old)) (CanAsk (CoordAsk.Late tid)) }
+        ensures served { IfOk result (ServesOn (Stands P.policy D.tells self.old (D.seen disk.old)) (Stands P.policy D.tells self.new (D.seen disk.new)) (CoordAsk.Late tid)) }
+        ensures failed { IfErr result (FailsOn (Stands P.policy D.tells self.old (D.seen disk.old)) (Stands P.policy D.tells self.new (D.seen disk.new)) (CoordAsk.Late tid)) }
+        ensures cause { HasCauseOf StepErr.Disk (D.seen disk.old).faults (D.seen disk.new).faults result }
     {
         if self.was_begun(tid) {
-            Request::Submits(CoordEvent::Late(tid))
+            self.core.step(alloc, disk, CoordEvent::Late(tid))
         } else {
-            Request::Declines(Answer::None)
+            declined(alloc, Answer::None)
         }
     }
 
