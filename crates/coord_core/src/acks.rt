@@ -65,13 +65,14 @@ impl<P: TakePolicy> CoordCore<P> {
         ensures failed { IfErr result (FailsOn P.policy D.tells self.old (D.seen disk.old) self.new (D.seen disk.new) (CoordEvent.Take site (From.Ack tid))) }
         ensures cause { HasCauseOf StepErr.Disk (D.seen disk.old).faults (D.seen disk.new).faults result }
     {
-        if !self.tables.awaits_ack(tid, site) {
-            return ignored(alloc);
-        }
-        match self.tables.known.answer(tid, Protocol::Nothing) {
-            Said::Known(decision) => self.ack_known(alloc, disk, site, tid, decision),
-            Said::Undecided => unreachable!(),
-            Said::Presumed(_) => unreachable!(),
+        if self.tables.awaits_ack(tid, site) {
+            match self.tables.known.answer(tid, Protocol::Nothing) {
+                Said::Known(decision) => self.ack_known(alloc, disk, site, tid, decision),
+                Said::Undecided => unreachable!(),
+                Said::Presumed(_) => unreachable!(),
+            }
+        } else {
+            ignored(alloc)
         }
     }
 }

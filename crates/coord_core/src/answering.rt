@@ -21,7 +21,7 @@ use coord_tables::{Taken, some_held};
 use fed_rules::{Answer, Cause, CoordEvent, CoordStep, FromSite};
 use global_exec::TakePolicy;
 use journal_disk::Disk;
-use mdb_base::{Reply, SiteId, Tid, Why};
+use mdb_base::{Memory, Reply, SiteId, Tid, Why};
 use std::alloc::Global;
 
 impl<P: TakePolicy> CoordCore<P> {
@@ -47,17 +47,21 @@ impl<P: TakePolicy> CoordCore<P> {
             n,
             reply,
         } = taken;
-        let Ok(dues) = self.tables.exec.news(alloc, tid, site, epoch, n, reply) else {
-            return Err(StepErr::Memory);
-        };
-        let Ok(may) = self.may_send(alloc, disk, tid, &dues) else {
-            return Err(StepErr::Memory);
-        };
-        let defers = some_held(may, &dues);
-        let Ok(through) = let_through(alloc, may, dues) else {
-            return Err(StepErr::Memory);
-        };
-        self.send(alloc, disk, tid, Some(taken), defers, &through)
+        match self.tables.exec.news(alloc, tid, site, epoch, n, reply) {
+            Err(Memory) => Err(StepErr::Memory),
+            Ok(dues) => match self.may_send(alloc, disk, tid, &dues) {
+                Err(Memory) => Err(StepErr::Memory),
+                Ok(may) => {
+                    let defers = some_held(may, &dues);
+                    match let_through(alloc, may, dues) {
+                        Err(Memory) => Err(StepErr::Memory),
+                        Ok(through) => {
+                            self.send(alloc, disk, tid, Some(taken), defers, &through)
+                        }
+                    }
+                }
+            },
+        }
     }
 
     /// A wait that counts fixes the epoch of its site.
@@ -122,17 +126,20 @@ impl<P: TakePolicy> CoordCore<P> {
         ensures failed { IfErr result (FailsWhere P.policy D.tells self.old (D.seen disk.old) self.new (D.seen disk.new) (λ terms past. IsAmong taken.site terms.protocols) (reply_event tid taken)) }
         ensures cause { HasCauseOf StepErr.Disk (D.seen disk.old).faults (D.seen disk.new).faults result }
     {
-        if !self
+        if self
             .tables
             .exec
             .counts(tid, taken.site, taken.epoch, taken.n, taken.reply)
         {
-            return ignored(alloc);
-        }
-        match taken.reply {
-            Reply::Done | Reply::Value(_) | Reply::Ticket(_) => self.go_on(alloc, disk, tid, taken),
-            Reply::Wait { .. } => self.take_wait(alloc, tid, taken),
-            Reply::Refused(_) | Reply::Unknown => self.refuse(alloc, disk, tid, taken),
+            match taken.reply {
+                Reply::Done | Reply::Value(_) | Reply::Ticket(_) => {
+                    self.go_on(alloc, disk, tid, taken)
+                }
+                Reply::Wait { .. } => self.take_wait(alloc, tid, taken),
+                Reply::Refused(_) | Reply::Unknown => self.refuse(alloc, disk, tid, taken),
+            }
+        } else {
+            ignored(alloc)
         }
     }
 

@@ -138,12 +138,12 @@ impl<P: TakePolicy> CoordCore<P> {
         ensures failed { IfErr result (FailsWhere P.policy D.tells self.old (D.seen disk.old) self.new (D.seen disk.new) (CountsVote site tid) (vote_event site tid (Some ticket))) }
         ensures cause { HasCauseOf StepErr.Disk (D.seen disk.old).faults (D.seen disk.new).faults result }
     {
-        let Ok(last) = self.tables.last_tickets(alloc, site, tid, ticket) else {
-            return Err(StepErr::Memory);
-        };
-        match last {
-            None => self.note_vote(alloc, site, tid, ticket),
-            Some(tickets) => self.last_vote(alloc, disk, site, tid, ticket, &tickets),
+        match self.tables.last_tickets(alloc, site, tid, ticket) {
+            Err(Memory) => Err(StepErr::Memory),
+            Ok(last) => match last {
+                None => self.note_vote(alloc, site, tid, ticket),
+                Some(tickets) => self.last_vote(alloc, disk, site, tid, ticket, &tickets),
+            },
         }
     }
 
@@ -164,12 +164,13 @@ impl<P: TakePolicy> CoordCore<P> {
         ensures failed { IfErr result (FailsOn P.policy D.tells self.old (D.seen disk.old) self.new (D.seen disk.new) (CoordEvent.Take site (From.Vote tid yes))) }
         ensures cause { HasCauseOf StepErr.Disk (D.seen disk.old).faults (D.seen disk.new).faults result }
     {
-        if !self.tables.exec.awaits_vote(tid, site) {
-            return ignored(alloc);
-        }
-        match yes {
-            None => self.abort(alloc, disk, tid, Cause::No { site }),
-            Some(ticket) => self.yes_vote(alloc, disk, site, tid, ticket),
+        if self.tables.exec.awaits_vote(tid, site) {
+            match yes {
+                None => self.abort(alloc, disk, tid, Cause::No { site }),
+                Some(ticket) => self.yes_vote(alloc, disk, site, tid, ticket),
+            }
+        } else {
+            ignored(alloc)
         }
     }
 }

@@ -13,19 +13,19 @@ use Rattle.coord_core.proofs.Made.{made_cause, made_err, made_ok}
 use Rattle.coord_core.proofs.Still.{serves}
 use Rattle.coord_core.proofs.coord.CoordCore.ack.Goals as goal
 
-pub returns-then-not-awaits_ack-clause-answered : goal.returns-then-not-awaits_ack-clause-answered
-returns-then-not-awaits_ack-clause-answered g c = made_ok _ _ c.ignored.result c.ignored.ensures (λ step told terms past k can.
+pub returns-else-awaits_ack-clause-answered : goal.returns-else-awaits_ack-clause-answered
+returns-else-awaits_ack-clause-answered g c = made_ok _ _ c.ignored.result c.ignored.ensures (λ step told terms past k can.
     let s = serves g.P.TakePolicy.policy g.D.Disk.tells c.args.self.now terms past k.holds c.requires.up in
     calm_steps g.P.TakePolicy.policy g.D.Disk.tells step c.args.self.now c.args.self.now (g.D.Disk.seen c.args.disk.now) terms past (Ev.Take c.args.site (From.Ack c.args.tid))
     (quiet (Ev.Take c.args.site (From.Ack c.args.tid)) Say.Ignored) k c.requires.up can tt
-    (ack_ignored c.args.self.now.tables terms past c.args.site c.args.tid s (sym c.awaits_ack.ensures ∙ c.if-not-awaits_ack.true)) refl
+    (ack_ignored c.args.self.now.tables terms past c.args.site c.args.tid s (sym c.awaits_ack.ensures ∙ c.if-awaits_ack.false)) refl
     (uncounted_calm (Ev.Take c.args.site (From.Ack c.args.tid)) Say.Ignored tt refl) (record { answer = told.0; sends = told.1 }) refl)
 
-pub returns-then-not-awaits_ack-clause-failed : goal.returns-then-not-awaits_ack-clause-failed
-returns-then-not-awaits_ack-clause-failed g c = made_err _ _ c.ignored.result c.ignored.ensures
+pub returns-else-awaits_ack-clause-failed : goal.returns-else-awaits_ack-clause-failed
+returns-else-awaits_ack-clause-failed g c = made_err _ _ c.ignored.result c.ignored.ensures
 
-pub returns-then-not-awaits_ack-clause-cause : goal.returns-then-not-awaits_ack-clause-cause
-returns-then-not-awaits_ack-clause-cause g c = made_cause _ _ _ c.ignored.result refl c.ignored.ensures
+pub returns-else-awaits_ack-clause-cause : goal.returns-else-awaits_ack-clause-cause
+returns-else-awaits_ack-clause-cause g c = made_cause _ _ _ c.ignored.result refl c.ignored.ensures
 
 pub ack_known-requires-clause-may : goal.ack_known-requires-clause-may
 ack_known-requires-clause-may g c =
@@ -34,22 +34,22 @@ ack_known-requires-clause-may g c =
     let said = said_told c.args.self.now.tables m.terms m.past c.args.tid By.Nothing s ∙ (sym c.answer.ensures ∙ c.in-Known.is) in
     record { terms = m.terms; past = m.past; stood = m.stood; holds = stands_decided By.Nothing c.in-Known.decision (standing m.terms.protocols m.past c.args.tid) said }
 
-pub returns-clause-answered : goal.returns-clause-answered
-returns-clause-answered g c = map_ok _ _ c.ack_known.result c.ack_known.ensures.answered (λ step each terms past k can.
+pub returns-in-Known-clause-answered : goal.returns-in-Known-clause-answered
+returns-in-Known-clause-answered g c = map_ok _ _ c.ack_known.result c.ack_known.ensures.answered (λ step each terms past k can.
     let s = serves g.P.TakePolicy.policy g.D.Disk.tells c.args.self.now terms past k.holds c.requires.up in
     let said = said_told c.args.self.now.tables terms past c.args.tid By.Nothing s ∙ (sym c.answer.ensures ∙ c.in-Known.is) in
     each terms past k (stands_decided By.Nothing c.in-Known.decision (standing terms.protocols past c.args.tid) said))
 
-pub returns-clause-failed : goal.returns-clause-failed
-returns-clause-failed g c = map_err _ _ c.ack_known.result c.ack_known.ensures.failed (λ why each terms past k can.
+pub returns-in-Known-clause-failed : goal.returns-in-Known-clause-failed
+returns-in-Known-clause-failed g c = map_err _ _ c.ack_known.result c.ack_known.ensures.failed (λ why each terms past k can.
     let s = serves g.P.TakePolicy.policy g.D.Disk.tells c.args.self.now terms past k.holds c.requires.up in
     let said = said_told c.args.self.now.tables terms past c.args.tid By.Nothing s ∙ (sym c.answer.ensures ∙ c.in-Known.is) in
     each terms past k (stands_decided By.Nothing c.in-Known.decision (standing terms.protocols past c.args.tid) said))
 
 pub unreachable-requires : goal.unreachable-requires
 unreachable-requires g c =
-    counted_undecided c.args.site (known_of c.args.tid c.args.self.now.tables.known) (sym c.awaits_ack.ensures ∙ c.if-not-awaits_ack.false) (sym c.answer.ensures ∙ c.in-Undecided.is)
+    counted_undecided c.args.site (known_of c.args.tid c.args.self.now.tables.known) (sym c.awaits_ack.ensures ∙ c.if-awaits_ack.true) (sym c.answer.ensures ∙ c.in-Undecided.is)
 
 pub unreachable-requires-in-Presumed : goal.unreachable-requires-in-Presumed
 unreachable-requires-in-Presumed g c =
-    counted_presumed c.args.site (known_of c.args.tid c.args.self.now.tables.known) c.in-Presumed.field-0 (sym c.awaits_ack.ensures ∙ c.if-not-awaits_ack.false) (sym c.answer.ensures ∙ c.in-Presumed.is)
+    counted_presumed c.args.site (known_of c.args.tid c.args.self.now.tables.known) c.in-Presumed.field-0 (sym c.awaits_ack.ensures ∙ c.if-awaits_ack.true) (sym c.answer.ensures ∙ c.in-Presumed.is)

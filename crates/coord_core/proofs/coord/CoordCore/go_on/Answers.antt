@@ -14,8 +14,8 @@ news-requires-clause-counts g c =
     let s = serves g.P.TakePolicy.policy g.D.Disk.tells c.args.self.now m.terms m.past m.stood.holds c.requires.up in
     counts_are c.args.self.now.tables m.terms m.past s taken.site c.args.tid taken.epoch taken.n taken.reply m.holds.among ∙ m.holds.counts
 
-pub returns-clause-answered : goal.returns-clause-answered
-returns-clause-answered g c = map_ok _ _ c.send.result c.send.ensures.answered (λ step each terms past k n.
+pub returns-in-Ok-let_through-clause-answered : goal.returns-in-Ok-let_through-clause-answered
+returns-in-Ok-let_through-clause-answered g c = map_ok _ _ c.send.result c.send.ensures.answered (λ step each terms past k n.
     let taken = c.args.taken in
     let s = serves g.P.TakePolicy.policy g.D.Disk.tells c.args.self.now terms past k.holds c.requires.up in
     let u = counts_open past taken.site c.args.tid taken.epoch taken.n taken.reply n.counts in
@@ -25,8 +25,8 @@ returns-clause-answered g c = map_ok _ _ c.send.result c.send.ensures.answered (
     (did_sending c.args.self.now.tables terms past k.holds.sound s taken.site c.args.tid taken.epoch taken.n taken.reply n.among n.counts c.requires.answers
     (may_take terms.protocols terms.policy past c.args.tid) c.some_held-defers.result c.in-Ok.dues c.in-Ok-let_through.through refl fresh (c.in-Ok-let_through.ensures ∙ same.passes) (c.some_held-defers.ensures ∙ same.held)))
 
-pub returns-clause-failed : goal.returns-clause-failed
-returns-clause-failed g c = map_err _ _ c.send.result c.send.ensures.failed (λ why each terms past k n.
+pub returns-in-Ok-let_through-clause-failed : goal.returns-in-Ok-let_through-clause-failed
+returns-in-Ok-let_through-clause-failed g c = map_err _ _ c.send.result c.send.ensures.failed (λ why each terms past k n.
     let taken = c.args.taken in
     let s = serves g.P.TakePolicy.policy g.D.Disk.tells c.args.self.now terms past k.holds c.requires.up in
     let u = counts_open past taken.site c.args.tid taken.epoch taken.n taken.reply n.counts in

@@ -1,110 +1,31 @@
-use Rattle.std.proofs.Common.{◌+◌, Option, option_to_list, refl, sym, subst, ◌∙◌}
-use Rattle.mdb_base.proofs.ForCallers.{map_err, map_ok, nothing_is}
-use Rattle.fed_rules.specs.declared.events.CoordStep.{CoordStep}
-use Rattle.fed_rules.specs.declared.records.CoordRecord.{CoordRecord}
-use Rattle.fed_rules.specs.Coord.{forced}
-use Rattle.fed_rules.specs.CoordPast.{disk, trip}
+use Rattle.std.proofs.Common.{◌+◌, refl, sym, subst, ◌∙◌}
+use Rattle.mdb_base.proofs.ForCallers.{map_ok, nothing_is}
 use Rattle.journal_disk.proofs.ForCallers.{none_at_most}
-use Rattle.actor_store.proofs.ForCallers.{from_kept}
 use Rattle.coord_core.specs.declared.coord.CoordCore.{CoordCore}
-use Rattle.coord_core.specs.Pending.{IsPending}
-use Rattle.coord_core.specs.Stands.{calls_for}
-use Rattle.coord_tables.specs.Sending.{after_taken}
-use Rattle.coord_tables.proofs.ForCallers.{initiates_is, sent_line, sent_tables}
-use Rattle.coord_core.proofs.CalledLaws.{fails_behind, steps_behind}
-use Rattle.coord_core.proofs.Fits.{initiation_fits, initiation_in_range}
-use Rattle.coord_core.proofs.Endings.{pending_quiet}
-use Rattle.coord_core.proofs.Sent.{sent_pending}
-use Rattle.coord_core.proofs.Roomed.{stands_roomed}
-use Rattle.coord_core.proofs.Still.{serves, up_is}
+use Rattle.coord_core.specs.Stands.{Stands, calls_for}
+use Rattle.coord_core.proofs.Made.{want_cause, want_err}
+use Rattle.coord_core.proofs.Still.{serves}
 use Rattle.coord_core.proofs.coord.CoordCore.send.Goals as goal
 
-pub room_for-requires-clause-fits : goal.room_for-requires-clause-fits
-room_for-requires-clause-fits g c =
-    let m = c.requires.may in
-    let s = serves g.P.TakePolicy.policy g.D.Disk.tells c.args.self.now m.terms m.past m.stood.holds c.requires.up in
-    initiation_fits m.terms m.past c.args.tid c.args.dues.now c.in-Ok.entry m.stood.holds.sound (c.in-Ok.ensures m.terms m.past m.stood.holds.sound s m.holds)
+pub initiate-requires-clause-some : goal.initiate-requires-clause-some
+initiate-requires-clause-some g c = sym c.is_some.ensures ∙ c.if-is_some.true
 
-pub returns-in_default-room_for-clause-failed : goal.returns-in_default-room_for-clause-failed
-returns-in_default-room_for-clause-failed g c = λ terms past event k i. (
-  stands_roomed g.P.TakePolicy.policy g.D.Disk.tells c.args.self.now c.room_for.new.store (g.D.Disk.seen c.args.disk.now) (g.D.Disk.seen c.room_for.new.disk) terms past c.room_for.ensures.keeps c.room_for.ensures.standing k,
-  none_at_most (0 + calls_for terms past event) (g.D.Disk.seen c.args.disk.now) (g.D.Disk.seen c.room_for.new.disk) c.room_for.ensures.called,
-)
+pub initiate-requires-clause-entry : goal.initiate-requires-clause-entry
+initiate-requires-clause-entry g c = λ terms past k undecided.
+    c.in-Ok.ensures terms past k.holds.sound (serves g.P.TakePolicy.policy g.D.Disk.tells c.args.self.now terms past k.holds c.requires.up) undecided
 
-pub end-requires-clause-kept : goal.end-requires-clause-kept
-end-requires-clause-kept g c =
-    let m = c.requires.may in
-    (m.stood.stored.old, (disk m.past, trip m.past, c.room_for.ensures.keeps _ _ _ m.stood.stored.behind))
+pub returns-else-is_some-clause-answered : goal.returns-else-is_some-clause-answered
+returns-else-is_some-clause-answered g c = map_ok _ _ c.send_at_once.result c.send_at_once.ensures.answered (λ step each terms past event k i.
+    let s = serves g.P.TakePolicy.policy g.D.Disk.tells c.args.self.now terms past k.holds c.requires.up in
+    let none = nothing_is c.in-Ok.entry (sym c.is_some.ensures ∙ c.if-is_some.false) in
+    each g.D.Disk.tells (g.D.Disk.seen c.args.disk.now) terms past event k i (sym (c.in-Ok.ensures terms past k.holds.sound s i.undecided) ∙ none))
 
-pub end-requires-clause-in_range : goal.end-requires-clause-in_range
-end-requires-clause-in_range g c =
-    let m = c.requires.may in
-    let s = serves g.P.TakePolicy.policy g.D.Disk.tells c.args.self.now m.terms m.past m.stood.holds c.requires.up in
-    initiation_in_range m.terms m.past c.args.tid c.args.dues.now c.in-Ok.entry m.stood.holds.sound m.holds (c.in-Ok.ensures m.terms m.past m.stood.holds.sound s m.holds)
+pub returns-else-is_some-clause-failed : goal.returns-else-is_some-clause-failed
+returns-else-is_some-clause-failed g c = want_err _ _ c.send_at_once.result c.send_at_once.ensures.why c.send_at_once.ensures.kept (λ same terms past event k i.
+    let seen = g.D.Disk.seen c.args.disk.now in (
+      subst (λ (core : CoordCore g.row.P.Denot). Stands g.P.TakePolicy.policy g.D.Disk.tells core seen terms past) (sym same) k,
+      none_at_most (0 + calls_for terms past event) seen seen refl,
+    ))
 
-pub end-requires-clause-payload : goal.end-requires-clause-payload
-end-requires-clause-payload g c =
-    let m = c.requires.may in
-    let s = serves g.P.TakePolicy.policy g.D.Disk.tells c.args.self.now m.terms m.past m.stood.holds c.requires.up in
-    initiation_fits m.terms m.past c.args.tid c.args.dues.now c.in-Ok.entry m.stood.holds.sound (c.in-Ok.ensures m.terms m.past m.stood.holds.sound s m.holds)
-
-pub returns-then-not-initiates-clause-answered : goal.returns-then-not-initiates-clause-answered
-returns-then-not-initiates-clause-answered g c = λ terms past event k i.
-    let old = c.args.self.now in
-    let core : CoordCore g.row.P.Denot = record old { tables = c.sent.new.self; store = c.room_for.new.store } in
-    let step : CoordStep = record { answer = c.said-answer.result; sends = c.in-Ok-send_dues.sends } in
-    let after = g.D.Disk.seen c.room_for.new.disk in
-    let x = sent_line terms.protocols past event c.args.tid c.args.defers c.args.dues.now c.is_some-initiates.result in
-    let s = serves g.P.TakePolicy.policy g.D.Disk.tells old terms past k.holds c.requires.up in
-    let entry = c.in-Ok.ensures terms past k.holds.sound s i.undecided in
-    let forces = c.is_some-initiates.ensures ∙ initiates_is terms past c.args.tid c.args.dues.now c.in-Ok.entry entry in
-    let none = nothing_is c.in-Ok.entry (sym c.is_some-initiates.ensures ∙ c.if-not-initiates.true) in
-    let served = sent_tables terms past event c.args.tid c.args.taken c.args.defers c.args.dues.now old.tables.exec (after_taken c.args.tid c.args.taken old.tables.exec) i c.is_some-initiates.result old.tables c.take_reply.new.self c.sent.new.self
-    refl c.take_reply.ensures.known c.take_reply.ensures.exec c.take_reply.ensures.stages c.take_reply.ensures.committed c.take_reply.ensures.graph c.sent.ensures.known c.sent.ensures.stages c.sent.ensures.exec c.sent.ensures.committed c.sent.ensures.graph s in
-    steps_behind g.P.TakePolicy.policy g.D.Disk.tells 0 (g.D.Disk.seen c.args.disk.now) after step core after terms past _ c.room_for.ensures.called
-    (pending_quiet g.P.TakePolicy.policy g.D.Disk.tells step core after terms past event x
-    (subst (λ (o : Option CoordRecord). IsPending g.P.TakePolicy.policy g.D.Disk.tells (forced (option_to_list o)) step core after terms past event x) none
-    (sent_pending terms past event c.args.tid c.args.taken c.args.defers c.args.dues.now old.tables.exec (after_taken c.args.tid c.args.taken old.tables.exec) i c.is_some-initiates.result g.P.TakePolicy.policy g.D.Disk.tells step old core
-    (g.D.Disk.seen c.args.disk.now) after c.in-Ok.entry k forces entry c.said-answer.ensures c.in-Ok-send_dues.ensures (from_kept k.stored (c.room_for.ensures.keeps _ _ _ k.stored.behind))
-    (up_is g.P.TakePolicy.policy g.D.Disk.tells old terms past k.holds c.requires.up) refl refl refl served))
-    (c.room_for.ensures.standing ∙ c.requires.up))
-
-pub returns-clause-answered : goal.returns-clause-answered
-returns-clause-answered g c =
-    let old = c.args.self.now in
-    let core : CoordCore g.row.P.Denot = record old { tables = c.sent.new.self; store = c.room_for.new.store } in
-    let step : CoordStep = record { answer = c.said-answer.result; sends = c.in-Ok-send_dues.sends } in
-    let before = g.D.Disk.seen c.args.disk.now in
-    let roomed = g.D.Disk.seen c.room_for.new.disk in
-    let after = g.D.Disk.seen c.end.new.disk in
-    map_ok _ _ c.end.result c.end.ensures.answered (λ ended each terms past event k i.
-    let s = serves g.P.TakePolicy.policy g.D.Disk.tells old terms past k.holds c.requires.up in
-    let entry = c.in-Ok.ensures terms past k.holds.sound s i.undecided in
-    let forces = c.is_some-initiates.ensures ∙ initiates_is terms past c.args.tid c.args.dues.now c.in-Ok.entry entry in
-    let served = sent_tables terms past event c.args.tid c.args.taken c.args.defers c.args.dues.now old.tables.exec (after_taken c.args.tid c.args.taken old.tables.exec) i c.is_some-initiates.result old.tables c.take_reply.new.self c.sent.new.self
-    refl c.take_reply.ensures.known c.take_reply.ensures.exec c.take_reply.ensures.stages c.take_reply.ensures.committed c.take_reply.ensures.graph c.sent.ensures.known c.sent.ensures.stages c.sent.ensures.exec c.sent.ensures.committed c.sent.ensures.graph s in
-    steps_behind g.P.TakePolicy.policy g.D.Disk.tells 0 before roomed ended c.end.new.self after terms past _ c.room_for.ensures.called
-    (each terms past event (sent_line terms.protocols past event c.args.tid c.args.defers c.args.dues.now c.is_some-initiates.result)
-    (sent_pending terms past event c.args.tid c.args.taken c.args.defers c.args.dues.now old.tables.exec (after_taken c.args.tid c.args.taken old.tables.exec) i c.is_some-initiates.result g.P.TakePolicy.policy g.D.Disk.tells step old core
-    before roomed c.in-Ok.entry k forces entry c.said-answer.ensures c.in-Ok-send_dues.ensures (from_kept k.stored (c.room_for.ensures.keeps _ _ _ k.stored.behind))
-    (up_is g.P.TakePolicy.policy g.D.Disk.tells old terms past k.holds c.requires.up) refl refl refl served)))
-
-pub returns-clause-failed : goal.returns-clause-failed
-returns-clause-failed g c =
-    let old = c.args.self.now in
-    let core : CoordCore g.row.P.Denot = record old { tables = c.sent.new.self; store = c.room_for.new.store } in
-    let step : CoordStep = record { answer = c.said-answer.result; sends = c.in-Ok-send_dues.sends } in
-    let before = g.D.Disk.seen c.args.disk.now in
-    let roomed = g.D.Disk.seen c.room_for.new.disk in
-    let after = g.D.Disk.seen c.end.new.disk in
-    map_err _ _ c.end.result c.end.ensures.failed (λ why each terms past event k i.
-    let s = serves g.P.TakePolicy.policy g.D.Disk.tells old terms past k.holds c.requires.up in
-    let entry = c.in-Ok.ensures terms past k.holds.sound s i.undecided in
-    let forces = c.is_some-initiates.ensures ∙ initiates_is terms past c.args.tid c.args.dues.now c.in-Ok.entry entry in
-    let served = sent_tables terms past event c.args.tid c.args.taken c.args.defers c.args.dues.now old.tables.exec (after_taken c.args.tid c.args.taken old.tables.exec) i c.is_some-initiates.result old.tables c.take_reply.new.self c.sent.new.self
-    refl c.take_reply.ensures.known c.take_reply.ensures.exec c.take_reply.ensures.stages c.take_reply.ensures.committed c.take_reply.ensures.graph c.sent.ensures.known c.sent.ensures.stages c.sent.ensures.exec c.sent.ensures.committed c.sent.ensures.graph s in
-    fails_behind g.P.TakePolicy.policy g.D.Disk.tells (0 + calls_for terms past event) before roomed why c.end.new.self after terms past event c.room_for.ensures.called
-    (each terms past event (sent_line terms.protocols past event c.args.tid c.args.defers c.args.dues.now c.is_some-initiates.result)
-    (sent_pending terms past event c.args.tid c.args.taken c.args.defers c.args.dues.now old.tables.exec (after_taken c.args.tid c.args.taken old.tables.exec) i c.is_some-initiates.result g.P.TakePolicy.policy g.D.Disk.tells step old core
-    before roomed c.in-Ok.entry k forces entry c.said-answer.ensures c.in-Ok-send_dues.ensures (from_kept k.stored (c.room_for.ensures.keeps _ _ _ k.stored.behind))
-    (up_is g.P.TakePolicy.policy g.D.Disk.tells old terms past k.holds c.requires.up) refl refl refl served)))
+pub returns-else-is_some-clause-cause : goal.returns-else-is_some-clause-cause
+returns-else-is_some-clause-cause g c = want_cause _ c.send_at_once.result c.send_at_once.ensures.why
