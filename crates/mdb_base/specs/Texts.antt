@@ -10,6 +10,6 @@ tid_text tid = decimal tid.tx.0 ++ codes "." ++ decimal tid.attempt
 abbrev pub BeginsWith : List ℕ → List ℕ → Type 0
 BeginsWith front all = (rest : List ℕ) × (all ≡ front ++ rest)
 
--- the last two digits of a number
-abbrev pub last_pair : ℕ → List ℕ
-last_pair n = (48 + n / 10 % 10) ∷ (48 + n % 10) ∷ []
+-- both digits of a number below 100
+abbrev pub pair : ℕ → List ℕ
+pair n = (48 + n / 10) ∷ (48 + n % 10) ∷ []
