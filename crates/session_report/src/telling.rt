@@ -81,9 +81,7 @@ impl Telling {
             Command::Begin(tx) => self.hear_begin(alloc, tx, &line.answer),
             Command::Step(tx) => self.hear_step(tx, &line.answer),
             Command::Go(_) => self.hear_go(alloc, &line.answer),
-            Command::Take { site, place } => {
-                self.hear_take(message_at(channels, site, place), &line.answer)
-            }
+            Command::Take { site, place } => { self.hear_take(channels, site, place, &line.answer) }
             _ => Ok(()),
         }
     }
@@ -128,9 +126,16 @@ impl Telling {
         Ok(())
     }
 
-    /// A message is taken: where it counts, and is a reply with a value, the value is noted.
-    fn hear_take(&mut self, message: Option<FromSite>, answer: &Answer) -> Result<(), Memory>
-        ensures { OnOk result (self.new ≡ record self.old { globals = with_taken message answer.now self.old.globals }) }
+    /// The message at this place is taken: where it counts, and is a reply with a value, the value is noted. Only where it counts is it
+    /// looked up.
+    fn hear_take(
+        &mut self,
+        channels: &[Traffic],
+        site: SiteId,
+        place: u32,
+        answer: &Answer,
+    ) -> Result<(), Memory>
+        ensures { OnOk result (self.new ≡ record self.old { globals = with_taken (message_at channels.now site place) answer.now self.old.globals }) }
     {
         if is_counted(answer) {
             if let Some(
@@ -139,7 +144,7 @@ impl Telling {
                     reply: Reply::Value(value),
                     ..
                 },
-            ) = message
+            ) = message_at(channels, site, place)
             {
                 note_value(&mut self.globals, tid, value)?;
             }
