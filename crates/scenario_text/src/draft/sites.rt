@@ -1,5 +1,5 @@
 //! The declared sites.
-ghost use Rattle.std.specs.Prelude.{◌≡◌, ◌++◌, [], ◌∷◌};
+ghost use Rattle.std.specs.Prelude.{◌≡◌, ◌++◌, [], ◌∷◌, IsTrue};
 ghost use Rattle.scenario_text.specs.Drafts.{with_site};
 ghost use Rattle.scenario_text.specs.Names as names;
 ghost use Rattle.scenario_text.specs.Reads.{Gives};
@@ -92,9 +92,25 @@ impl SiteDraft {
     }
 }
 
+/// Whether the sites from 1 up to this one stand in their order, as far as its own line tells.
+#[tactic(auto, using(std::proofs::lemmas::List::Folds::list_any_at))]
+fn is_in_order(lines: &[SiteLine], site: SiteId) -> bool
+    ensures { IsTrue result → IsTrue (is_declared lines.now site) }
+{
+    let number = usize::from(site.0);
+    0 < number && number <= lines.len() && lines[number - 1].site.0 == site.0
+}
+
 /// Whether a line declares the site.
-fn declares(lines: &[SiteLine], site: SiteId) -> bool
+fn stands_there(lines: &[SiteLine], site: SiteId) -> bool
     ensures { result ≡ is_declared lines.now site }
 {
     lines.iter().any(|line| line.site.0 == site.0)
+}
+
+/// Whether a line declares the site. Where the sites stand in their order, its line is found at once.
+fn declares(lines: &[SiteLine], site: SiteId) -> bool
+    ensures { result ≡ is_declared lines.now site }
+{
+    is_in_order(lines, site) || stands_there(lines, site)
 }

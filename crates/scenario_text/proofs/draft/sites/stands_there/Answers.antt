@@ -3,7 +3,7 @@ use Rattle.std.proofs.lemmas.Iterator.{YieldsList-from_slice}
 use Rattle.std.proofs.lemmas.Iterator.Search.{any_from_yields_List}
 use Rattle.mdb_base.proofs.ForCallers.{some_of-list_any}
 use Rattle.fed_rules.specs.Plans.{declares}
-use Rattle.scenario_text.proofs.draft.sites.declares.Goals as goal
+use Rattle.scenario_text.proofs.draft.sites.stands_there.Goals as goal
 
 pub returns : goal.returns
 returns c =
