@@ -14,5 +14,6 @@ pub mod CoordKeeps
 pub mod CoordCarrying
 pub mod CoordViews
 pub mod CoordTurns
+pub mod CoordSends
 pub mod CoordServing
 pub mod CoordHosts

@@ -3,6 +3,7 @@ ghost use Rattle.std.specs.Prelude.{◌≡◌, [], true, false, IfOk, IsErrOf, I
 ghost use Rattle.mdb_base.specs.Words.{Each};
 ghost use Rattle.fed_hosts.specs.Ports.{IsWritten};
 ghost use Rattle.fed_hosts.specs.CoordHosts.{CanOpenCoord, HasReturnedCoord, IsHeldCoord};
+ghost use Rattle.fed_hosts.specs.CoordSends.{last_sends};
 ghost use Rattle.fed_hosts.specs.CoordTurns.{HasCoordTurned};
 ghost use Rattle.fed_hosts.specs.CoordViews.{HasCoordServed};
 ghost use Rattle.fed_hosts.specs.declared.coord_asks.CoordCall.TheVariants as Asks;
@@ -11,12 +12,13 @@ ghost use Rattle.line_text.specs.declared.error.DoorErr.TheVariants as Err_is;
 use crate::coord_actor::CoordActor;
 use crate::coord_asks::CoordCall;
 use crate::coord_parts::CoordParts;
+use crate::coord_sends::last_sends;
 use crate::gates::Gate;
 use crate::plans::Plan;
 use crate::ports::Port;
 use crate::written::ports_fit;
 use client_drivers::DoorErr;
-use fed_rules::{Answer, StampedLines, StopLine};
+use fed_rules::{Answer, Place, StampedLines, StopLine};
 use global_exec::TakePolicy;
 use global_manager::{GlobalManager, StepErr};
 use journal_disk::Disk;
@@ -167,6 +169,13 @@ impl<P: TakePolicy, D: Disk, N: Plan> CoordHost<P, D, N> {
                 Err(DoorErr::Disk)
             }
         }
+    }
+
+    /// The places of what the last line sends, or of what the one before it sends where the last one arms a stop.
+    pub fn last_sends(&self) -> &[Place]
+        ensures { result.now ≡ last_sends self.now.lines }
+    {
+        last_sends(self.actor.lines.as_slice())
     }
 
     /// What a client asks of a transaction or an attempt.

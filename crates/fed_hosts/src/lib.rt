@@ -14,6 +14,7 @@ mod coord_asks;
 mod coord_host;
 mod coord_keeping;
 mod coord_parts;
+mod coord_sends;
 mod coord_serving;
 mod coord_turns;
 mod ends;
