@@ -4,6 +4,7 @@ ghost use Rattle.std.specs.Prelude.{List};
 ghost use Rattle.client_drivers.specs.Calls.{Called};
 
 use crate::drives::Drive;
+use crate::wakes::Sites;
 use any_engine::AnyEngine;
 use client_drivers::{Answer, CoordDoor, DoorErr, SiteDoor};
 use conservative_take::AnyPolicy;
@@ -70,8 +71,11 @@ impl<'a, R: Wait, D: Disk, G: Gate, N: Plan> CoordDoor for CoordLock<'a, R, D, G
 
     fn go(&mut self, tx: Tx) -> Result<Answer, DoorErr> {
         self.drive.stand_back();
-        let answer = self.host.lock(self.rt).go(tx, self.gate);
-        self.drive.note_asked();
+        let mut host = self.host.lock(self.rt);
+        let answer = host.go(tx, self.gate);
+        let sites = Sites::of(host.last_sends());
+        drop(host);
+        self.drive.note_asked(sites);
         answer
     }
 
@@ -82,14 +86,20 @@ impl<'a, R: Wait, D: Disk, G: Gate, N: Plan> CoordDoor for CoordLock<'a, R, D, G
     }
 
     fn again(&mut self, tid: Tid) -> Result<Answer, DoorErr> {
-        let answer = self.host.lock(self.rt).again(tid, self.gate);
-        self.drive.note_asked();
+        let mut host = self.host.lock(self.rt);
+        let answer = host.again(tid, self.gate);
+        let sites = Sites::of(host.last_sends());
+        drop(host);
+        self.drive.note_asked(sites);
         answer
     }
 
     fn late(&mut self, tid: Tid) -> Result<Answer, DoorErr> {
-        let answer = self.host.lock(self.rt).late(tid, self.gate);
-        self.drive.note_asked();
+        let mut host = self.host.lock(self.rt);
+        let answer = host.late(tid, self.gate);
+        let sites = Sites::of(host.last_sends());
+        drop(host);
+        self.drive.note_asked(sites);
         answer
     }
 }

@@ -4,6 +4,7 @@
 //! once: what refused it is often still there, and of two clients that refuse each other neither would get through. So the client stands
 //! back until no client has an attempt under way, and such attempts go on one at a time. Each wait is bounded (`moves`).
 use crate::moves::Moves;
+use crate::wakes::Sites;
 use client_drivers::{Answer, DoorErr};
 
 /// Whether a call got nowhere: the attempt still runs or waits, or the actor is down.
@@ -54,12 +55,17 @@ impl<'a> Drive<'a> {
         }
     }
 
-    /// Waits where the call got nowhere. A host whose actor is down is woken.
+    /// Whether a turn of the host may help: its actor is down and starts again, or it is a site, which may ask about what it is in doubt of.
+    fn may_help(&self, answer: &Result<Answer, DoorErr>) -> bool {
+        is_down(answer) || self.actor != 0
+    }
+
+    /// Waits where the call got nowhere. The host is woken where a turn of it may help.
     pub(crate) fn pause(&self, answer: &Result<Answer, DoorErr>) {
-        if is_down(answer) {
-            self.moves.wake(self.actor);
-        }
         if got_nowhere(answer) {
+            if self.may_help(answer) {
+                self.moves.wake(self.actor);
+            }
             self.moves.await_rest(self.actor);
         }
     }
@@ -80,9 +86,9 @@ impl<'a> Drive<'a> {
         }
     }
 
-    /// Notes that the coordinator may have sent something.
-    pub(crate) fn note_asked(&self) {
-        self.moves.note_asked();
+    /// Notes that the coordinator sent something to these sites.
+    pub(crate) fn note_asked(&self, sites: Sites) {
+        self.moves.note_asked(sites);
     }
 
     /// Notes that the transaction, a local one, may have ended.

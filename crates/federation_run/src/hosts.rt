@@ -1,8 +1,9 @@
 //! The hosts of a run, as its threads share them.
 ghost use Rattle.std.specs.Prelude.{◌≡◌, ◌≤◌, ◌+◌, length, vec_len, vec_capacity};
 
-use crate::moves::{ACTORS, Moves};
+use crate::moves::Moves;
 use crate::seats::Seat;
+use crate::wakes::ACTORS;
 use any_engine::AnyEngine;
 use conservative_take::AnyPolicy;
 use fed_hosts::{CoordHost, Plan, SiteHost};

@@ -22,6 +22,7 @@ mod settling;
 mod sorting;
 mod stops;
 mod tasks;
+mod wakes;
 mod wired;
 mod wiring;
 

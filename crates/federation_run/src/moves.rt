@@ -1,14 +1,14 @@
 //! How far the hosts of a run got, as its threads see it.
 //!
-//! A thread that can't go on leaves its processor to the others, a bounded number of times: a client whose transaction still runs or
-//! waits, until its host rests; a client that stands back, until no attempt is under way; a host that found no message, until it is woken,
-//! since one may have been sent to it or its actor was found down. A host rests where it made no move for a while, and each host found
-//! nothing since it was woken last. Nothing is proved of these numbers, and none of a run's clauses rests on them.
+//! A thread that can't go on leaves its processor to the others. A host that found no message sleeps until it is woken, since something was
+//! sent to it or its actor was found down, or until no client calls. A client yields, a bounded number of times: one whose transaction still
+//! runs or waits, until its host rests; one that stands back, until no attempt is under way. A host rests where it made no move for a while,
+//! and each host found nothing since it was woken last: one that was woken and didn't look yet doesn't rest. Nothing is proved of these
+//! numbers, and none of a run's clauses rests on them.
+use crate::wakes::{ACTORS, Sites, Wakes, noughts};
+use std::sync::Wait;
 use std::sync::atomic::{AtomicU64, Ordering};
 use std::thread;
-
-/// How many actors there are: the coordinator, and eight sites.
-pub(crate) const ACTORS: u8 = 9;
 
 /// How often a client yields while its host makes no move, before it looks whether the host rests.
 const PATIENCE: u32 = 1_024;
@@ -19,7 +19,7 @@ const WATCHED: u32 = 64;
 /// How often a client that stands back yields at most, before it begins beside the attempts that are under way.
 const STANDS_BACK: u32 = 65_536;
 
-/// How often a host that found no message yields at most, before its next turn.
+/// How often a host that found no message sleeps or yields at most, before its next turn.
 const IDLE: u32 = 4_096;
 
 /// The count of moves of a host whose thread has ended is at least this. A run has far fewer moves.
@@ -30,46 +30,28 @@ fn raise(count: &AtomicU64, more: u64) {
     count.fetch_add(more, Ordering::SeqCst);
 }
 
-/// A count of 0 for each actor.
-fn noughts() -> [AtomicU64; 9] {
-    [
-        AtomicU64::new(0),
-        AtomicU64::new(0),
-        AtomicU64::new(0),
-        AtomicU64::new(0),
-        AtomicU64::new(0),
-        AtomicU64::new(0),
-        AtomicU64::new(0),
-        AtomicU64::new(0),
-        AtomicU64::new(0),
-    ]
-}
-
 /// What the threads of a run tell each other. Each count is modulo 2^64.
 #[derive(Drop)]
 pub(crate) struct Moves {
     /// For each actor, the moves of its host: its turns that made a line, and, at a site, commits and aborts of local transactions.
     made: [AtomicU64; 9],
-    /// For each actor, how often its host had been woken when it last found nothing.
-    looked: [AtomicU64; 9],
-    /// How often the hosts of the sites were woken, all at once.
-    woken_sites: AtomicU64,
-    /// How often the coordinator's host was woken.
-    woken_coordinator: AtomicU64,
-    /// How many clients still call.
+    /// How often the hosts were woken.
+    wakes: Wakes,
+    /// How many clients didn't begin to call yet. Where no further thread can be made, these wait for a task to end.
+    waiting: AtomicU64,
+    /// How many clients still call, or didn't begin to.
     clients: AtomicU64,
     /// How many clients have an attempt under way.
     under_way: AtomicU64,
 }
 
 impl Moves {
-    /// No host has moved, no attempt is under way, and so many clients call.
+    /// No host has moved, no attempt is under way, and so many clients are to call.
     pub(crate) fn new(clients: u64) -> Moves {
         Moves {
             made: noughts(),
-            looked: noughts(),
-            woken_sites: AtomicU64::new(0),
-            woken_coordinator: AtomicU64::new(0),
+            wakes: Wakes::new(),
+            waiting: AtomicU64::new(clients),
             clients: AtomicU64::new(clients),
             under_way: AtomicU64::new(0),
         }
@@ -90,28 +72,26 @@ impl Moves {
         }
     }
 
-    /// Wakes the host of this actor; where it is a site, those of all sites.
+    /// Wakes the host of this actor.
     pub(crate) fn wake(&self, actor: u8) {
-        if actor == 0 {
-            raise(&self.woken_coordinator, 1);
-        } else {
-            raise(&self.woken_sites, 1);
-        }
+        self.wakes.wake(actor);
     }
 
-    /// Notes a turn of this actor's host that made a line, and may have sent something.
-    pub(crate) fn note_turn(&self, actor: u8) {
-        self.add(actor, 1);
-        if actor == 0 {
-            raise(&self.woken_sites, 1);
-        } else {
-            raise(&self.woken_coordinator, 1);
-        }
+    /// Notes a turn of this site's host that made a line, and may have sent something to the coordinator.
+    pub(crate) fn note_turn(&self, site: u8) {
+        self.add(site, 1);
+        self.wakes.wake(0);
     }
 
-    /// Notes that a client may have had the coordinator send something.
-    pub(crate) fn note_asked(&self) {
-        raise(&self.woken_sites, 1);
+    /// Notes a turn of the coordinator's host that made a line, and sent something to these sites.
+    pub(crate) fn note_coordinator_turn(&self, sites: Sites) {
+        self.add(0, 1);
+        self.wakes.wake_sites(sites);
+    }
+
+    /// Notes that a client had the coordinator send something to these sites.
+    pub(crate) fn note_asked(&self, sites: Sites) {
+        self.wakes.wake_sites(sites);
     }
 
     /// Notes that a local transaction of the site may have ended.
@@ -124,37 +104,62 @@ impl Moves {
         self.add(actor, ENDED);
     }
 
-    /// Notes that a client makes no further call.
+    /// Notes that a client begins to call.
+    pub(crate) fn note_client_begun(&self) {
+        self.waiting.fetch_sub(1, Ordering::SeqCst);
+    }
+
+    /// Notes that a client makes no further call. Behind the last one all hosts are woken.
     pub(crate) fn note_client_ended(&self) {
-        self.clients.fetch_sub(1, Ordering::SeqCst);
+        if self.clients.fetch_sub(1, Ordering::SeqCst) == 1 {
+            self.wakes.wake_all();
+        }
     }
 
     /// How often the host of this actor was woken.
     pub(crate) fn wakes(&self, actor: u8) -> u64 {
-        if actor == 0 {
-            self.woken_coordinator.load(Ordering::SeqCst)
+        self.wakes.of(actor)
+    }
+
+    /// Leaves the processor to others: the host of this actor sleeps where each client has begun to call, so that the last one that calls
+    /// wakes it, and else yields.
+    fn stand_by<R: Wait>(&self, rt: &R, actor: u8, seen: u64) {
+        if self.waiting.load(Ordering::SeqCst) == 0 {
+            self.wakes.sleep(rt, actor, seen);
         } else {
-            self.woken_sites.load(Ordering::SeqCst)
-        }
-    }
-
-    /// Notes that the host of this actor found nothing, which had been woken so often before it looked.
-    fn note_looked(&self, actor: u8, seen: u64) {
-        match self.looked.get(usize::from(actor)) {
-            Some(looked) => looked.store(seen, Ordering::SeqCst),
-            None => {}
-        }
-    }
-
-    /// Where the host of this actor found nothing: yields, once at least, until it was woken more often than that, or no client calls.
-    pub(crate) fn await_wake(&self, actor: u8, seen: u64) {
-        self.note_looked(actor, seen);
-        for _ in 0..IDLE {
             thread::yield_now();
-            if self.wakes(actor) != seen || self.clients.load(Ordering::SeqCst) == 0 {
-                return;
-            }
         }
+    }
+
+    /// Where no client calls: yields until the host of this actor was woken more often than that, or each host found nothing since it was
+    /// woken last. Says whether the host was woken.
+    fn await_last(&self, actor: u8, seen: u64) -> bool {
+        for _ in 0..IDLE {
+            if self.wakes(actor) != seen {
+                return true;
+            }
+            if self.all_have_looked() {
+                return false;
+            }
+            thread::yield_now();
+        }
+        true
+    }
+
+    /// Where the host of this actor found nothing, which had been woken so often before it looked: sleeps until it was woken more often than
+    /// that, or no client calls. Says whether a further turn may find something.
+    pub(crate) fn await_wake<R: Wait>(&self, rt: &R, actor: u8, seen: u64) -> bool {
+        self.wakes.note_looked(actor, seen);
+        for _ in 0..IDLE {
+            if self.wakes(actor) != seen {
+                return true;
+            }
+            if self.clients.load(Ordering::SeqCst) == 0 {
+                return self.await_last(actor, seen);
+            }
+            self.stand_by(rt, actor, seen);
+        }
+        true
     }
 
     /// Yields until the host of this actor has moved since this was its count, and says whether it has.
@@ -175,12 +180,7 @@ impl Moves {
 
     /// Whether the host of this actor found nothing since it was woken last, or takes no further turn.
     fn has_looked(&self, actor: u8) -> bool {
-        match self.looked.get(usize::from(actor)) {
-            Some(looked) => {
-                looked.load(Ordering::SeqCst) == self.wakes(actor) || self.has_ended(actor)
-            }
-            None => true,
-        }
+        self.wakes.has_looked(actor) || self.has_ended(actor)
     }
 
     /// Whether each host found nothing since it was woken last, or takes no further turn.

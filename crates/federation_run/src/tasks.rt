@@ -5,9 +5,10 @@ use crate::clients::{Workload, run_client};
 use crate::hosts::{Hosts, hosts_in};
 use crate::moves::Moves;
 use crate::seats::Seat;
+use crate::wakes::Sites;
 use any_engine::AnyEngine;
 use conservative_take::AnyPolicy;
-use fed_hosts::{CoordHost, Gate, Plan, SiteHost};
+use fed_hosts::{CoordHost, DoorErr, Gate, Plan, SiteHost};
 use journal_disk::Disk;
 use mdb_base::{Memory, SiteId};
 use std::alloc::Global;
@@ -39,7 +40,7 @@ pub(crate) fn tasks_of(alloc: Global, sites: &[SiteId], clients: u8) -> Result<V
     Ok(tasks)
 }
 
-/// The turns of a site's own. They end at once where its host carries nothing out.
+/// The turns of a site's own. They end at once where its host carries nothing out, and where no client calls and nothing is under way.
 fn turn_site<R: Wait, D: Disk, G: Gate, N: Plan>(
     rt: &R,
     host: &Mutex<SiteHost<AnyEngine, D, N>>,
@@ -53,13 +54,32 @@ fn turn_site<R: Wait, D: Disk, G: Gate, N: Plan>(
         let made = host.lock(rt).turn(gate);
         match made {
             Ok(true) => moves.note_turn(site.0),
-            Ok(false) => moves.await_wake(site.0, seen),
+            Ok(false) => {
+                if !moves.await_wake(rt, site.0, seen) {
+                    return;
+                }
+            }
             Err(_) => return,
         }
     }
 }
 
-/// The turns of the coordinator's own. They end at once where its host carries nothing out.
+/// A turn of the coordinator's own: the sites that its line sent something to, where it made one.
+fn coordinator_turn<R: Wait, D: Disk, G: Gate, N: Plan>(
+    rt: &R,
+    host: &Mutex<CoordHost<AnyPolicy, D, N>>,
+    gate: &G,
+) -> Result<Option<Sites>, DoorErr> {
+    let mut host = host.lock(rt);
+    if host.turn(gate)? {
+        Ok(Some(Sites::of(host.last_sends())))
+    } else {
+        Ok(None)
+    }
+}
+
+/// The turns of the coordinator's own. They end at once where its host carries nothing out, and where no client calls and nothing is under
+/// way.
 fn turn_coordinator<R: Wait, D: Disk, G: Gate, N: Plan>(
     rt: &R,
     host: &Mutex<CoordHost<AnyPolicy, D, N>>,
@@ -69,10 +89,13 @@ fn turn_coordinator<R: Wait, D: Disk, G: Gate, N: Plan>(
 ) {
     for _ in 0..turns {
         let seen = moves.wakes(0);
-        let made = host.lock(rt).turn(gate);
-        match made {
-            Ok(true) => moves.note_turn(0),
-            Ok(false) => moves.await_wake(0, seen),
+        match coordinator_turn(rt, host, gate) {
+            Ok(Some(sites)) => moves.note_coordinator_turn(sites),
+            Ok(None) => {
+                if !moves.await_wake(rt, 0, seen) {
+                    return;
+                }
+            }
             Err(_) => return,
         }
     }
@@ -98,6 +121,7 @@ fn run_task<R: Wait, D: Disk, G: Gate, N: Plan>(
             hosts.moves.note_host_ended(site.0);
         }
         Task::Client(client) => {
+            hosts.moves.note_client_begun();
             run_client(rt, workload, hosts, gate, client);
             hosts.moves.note_client_ended();
         }
