@@ -8,4 +8,6 @@ mod global_sessions;
 #[cfg(test)]
 mod local_sessions;
 #[cfg(test)]
+mod messages;
+#[cfg(test)]
 mod site_sessions;

@@ -3,6 +3,7 @@ ghost use Rattle.std.specs.Prelude.{◌≡◌, [], IfOk, OnOk};
 ghost use Rattle.journal_disk.specs.MemDisk.{mem_size};
 ghost use Rattle.actor_tests.specs.SiteSessions.{MayStep, StepsOn, TestStands, locking_home, stopped_past};
 
+use crate::messages::is_same_reply;
 use fed_rules::{Answer, FromSite, SiteEvent, ToSite};
 use journal_disk::{Disk, MemDisk};
 use locking_engine::LockingEngine;
@@ -106,7 +107,7 @@ fn answers(
     ensures { OnOk result (StepsOn core.old disk.old event core.new disk.new) }
 {
     let step = core.step(alloc, disk, event)?;
-    assert!(rt; step.answer == answer, "{event:?}");
+    assert!(rt; step.answer == answer);
     Ok(step.sends)
 }
 
@@ -281,14 +282,14 @@ fn takes_its_ticket(
         act: PlainAct::Read(Key(5)),
     });
     let read = answers(rt, alloc, core, disk, work, Answer::Did(FIRST, value))?;
-    assert!(rt; read == did(0, value));
+    assert!(rt; is_same_reply(read, did(0, value)));
     let take = SiteEvent::Give(ToSite::Take {
         tid: FIRST,
         epoch: 1,
         n: 1,
     });
     let taken = answers(rt, alloc, core, disk, take, Answer::Did(FIRST, ticket))?;
-    assert!(rt; taken == did(1, ticket));
+    assert!(rt; is_same_reply(taken, did(1, ticket)));
     assert!(rt; is_running(core, 2) && holds(alloc, disk, &BYTES));
     Ok(())
 }

@@ -4,7 +4,7 @@ use crate::answers::Answer;
 use mdb_base::{SiteId, Tid, Tx};
 
 /// A command. Messages of a channel are numbered from 0 in the order in which they are sent.
-#[derive(Clone, Copy, Debug, PartialEq, Eq)]
+#[derive(Clone, Copy)]
 pub enum Command {
     Begin(Tx),
     Step(Tx),
@@ -29,14 +29,14 @@ pub enum Command {
 }
 
 /// The place of a sent message in the channel to or from a site, counted from 0.
-#[derive(Clone, Copy, Debug, PartialEq, Eq)]
+#[derive(Clone, Copy, PartialEq, Eq)]
 pub struct Place {
     pub site: SiteId,
     pub place: u32,
 }
 
 /// One command with its answer and the places of what it sent.
-#[derive(PartialEq, Eq, Drop)]
+#[derive(Drop)]
 pub struct Line {
     pub command: Command,
     pub answer: Answer,
@@ -44,7 +44,7 @@ pub struct Line {
 }
 
 /// A line with its stamp (Lamport 1978).
-#[derive(PartialEq, Eq, Drop)]
+#[derive(Drop)]
 pub struct Stamped {
     pub stamp: u64,
     pub line: Line,

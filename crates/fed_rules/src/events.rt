@@ -5,7 +5,7 @@ use crate::messages::{FromSite, ToSite};
 use mdb_base::{PlainAct, Program, SiteId, Tid, Tx};
 
 /// An event of a site.
-#[derive(Clone, Copy, Debug, PartialEq, Eq)]
+#[derive(Clone, Copy)]
 pub enum SiteEvent {
     /// A local attempt begins.
     Begin(Tid),

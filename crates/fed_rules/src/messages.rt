@@ -4,7 +4,7 @@ use presumptions::Decision;
 
 /// A message to a site. An operation names the epoch of the replies that were taken from the site for this attempt, 0 before the
 /// first, and counts the finished operations, 0 to 255.
-#[derive(Clone, Copy, Debug, PartialEq, Eq)]
+#[derive(Clone, Copy)]
 pub enum ToSite {
     /// Carry out this act.
     Work {
@@ -33,7 +33,7 @@ pub enum ToSite {
 }
 
 /// A message from a site.
-#[derive(Clone, Copy, Debug, PartialEq, Eq)]
+#[derive(Clone, Copy)]
 pub enum FromSite {
     /// The reply to an operation, with the site's epoch and the operation's count.
     Did {
@@ -58,7 +58,7 @@ pub enum FromSite {
 }
 
 /// A message with the site that it goes to.
-#[derive(Clone, Copy, Debug, PartialEq, Eq)]
+#[derive(Clone, Copy)]
 pub struct Sent {
     pub site: SiteId,
     pub message: ToSite,
@@ -69,7 +69,7 @@ impl Keyed for Sent {
 }
 
 /// What is outstanding at a site for an attempt.
-#[derive(Clone, Copy, Debug, PartialEq, Eq)]
+#[derive(Clone, Copy)]
 pub enum Due {
     Work {
         site: SiteId,

@@ -11,7 +11,7 @@ pub struct TxReads {
 }
 
 /// How a global attempt ended.
-#[derive(Clone, Copy, Debug, PartialEq, Eq)]
+#[derive(Clone, Copy)]
 pub struct Outcome {
     pub tid: Tid,
     pub decision: Decision,

@@ -19,7 +19,7 @@ pub struct Kept {
 }
 
 /// A prepared transaction in doubt, as its site speaks of it.
-#[derive(Clone, Copy, Debug, PartialEq, Eq)]
+#[derive(Clone, Copy)]
 pub struct Doubt {
     pub tid: Tid,
     pub epoch: u32,

@@ -5,7 +5,7 @@ use presumptions::Protocol;
 use std::marker::Model;
 
 /// A site with its rule and its protocol.
-#[derive(Clone, Copy, Debug, PartialEq, Eq)]
+#[derive(Clone, Copy)]
 pub struct SiteLine {
     pub site: SiteId,
     pub engine: Engine,
@@ -13,7 +13,7 @@ pub struct SiteLine {
 }
 
 /// A first row of a site.
-#[derive(Clone, Copy, Debug, PartialEq, Eq)]
+#[derive(Clone, Copy)]
 pub struct ItemLine {
     pub site: SiteId,
     pub put: Put,
@@ -28,7 +28,7 @@ pub struct TxLine {
 }
 
 /// The fate of one message of the channel to or from a site.
-#[derive(Clone, Copy, Debug, PartialEq, Eq)]
+#[derive(Clone, Copy)]
 pub struct LinkLine {
     pub to: bool,
     pub site: SiteId,
@@ -37,7 +37,7 @@ pub struct LinkLine {
 }
 
 /// A scripted stop of an actor after so many disk calls, with its cut.
-#[derive(Clone, Copy, Debug, PartialEq, Eq)]
+#[derive(Clone, Copy)]
 pub struct StopLine {
     pub actor: u8,
     pub calls: u32,

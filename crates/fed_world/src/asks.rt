@@ -3,7 +3,7 @@ use global_manager::CoordAsk;
 use local_dbms::SiteAsk;
 
 /// Who hears of a command: the site at this place among the declared ones, the coordinator, or nobody, which is answered with `none`.
-#[derive(Clone, Copy, Debug, PartialEq, Eq)]
+#[derive(Clone, Copy)]
 pub(crate) enum Asked {
     Site { place: usize, ask: SiteAsk },
     Coordinator(CoordAsk),

@@ -3,7 +3,7 @@ use fed_rules::FromSite;
 use mdb_base::{SiteId, Tid, Tx};
 
 /// What is asked of the coordinator.
-#[derive(Clone, Copy, Debug, PartialEq, Eq)]
+#[derive(Clone, Copy)]
 pub enum CoordAsk {
     /// Submit the next attempt of a global transaction.
     Go(Tx),

@@ -14,7 +14,7 @@ use site_core::StepErr;
 use std::alloc::Global;
 
 /// What is asked of a site.
-#[derive(Clone, Copy, Debug, PartialEq, Eq)]
+#[derive(Clone, Copy)]
 pub enum SiteAsk {
     /// The next attempt of one of the site's own transactions begins, of at most 32.
     Begin(Tx),

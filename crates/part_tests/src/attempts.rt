@@ -1,9 +1,9 @@
 //! Sessions of attempts with their sites, as tables of deeds and what comes of each.
 mod play;
 
-use global_exec::{Always, Due, GlobalExec, SiteSet, TakePolicy};
+use global_exec::{Always, GlobalExec, SiteSet, TakePolicy};
 use mdb_base::{Key, PlainAct, Reply, Tid, Tx, Why};
-use play::{Came, Deed, FIRST, ONE, Said, TWO, play, submitted};
+use play::{Came, Deed, FIRST, Left, ONE, Said, TWO, play, submitted};
 use std::test::Fail;
 
 const SECOND: Tid = Tid {
@@ -12,46 +12,19 @@ const SECOND: Tid = Tid {
 };
 
 // The first step's work, before any reply.
-const READ: Due = Due::Work {
-    site: TWO,
-    epoch: 0,
-    n: 0,
-    act: PlainAct::Read(Key(5)),
-};
+const READ: Left = ("work", TWO, 0, 0, Some(PlainAct::Read(Key(5))));
 
 // The same in the site's fourth epoch.
-const READ_IN_EPOCH_4: Due = Due::Work {
-    site: TWO,
-    epoch: 4,
-    n: 0,
-    act: PlainAct::Read(Key(5)),
-};
+const READ_IN_EPOCH_4: Left = ("work", TWO, 4, 0, Some(PlainAct::Read(Key(5))));
 
 // The second step's work, where 7 was read.
-const WRITE: Due = Due::Work {
-    site: ONE,
-    epoch: 0,
-    n: 0,
-    act: PlainAct::Write(Key(6), 10),
-};
+const WRITE: Left = ("work", ONE, 0, 0, Some(PlainAct::Write(Key(6), 10)));
 
-const TAKE_IN_EPOCH_1: Due = Due::Take {
-    site: TWO,
-    epoch: 1,
-    n: 1,
-};
+const TAKE_IN_EPOCH_1: Left = ("take", TWO, 1, 1, None);
 
-const TAKE_IN_EPOCH_4: Due = Due::Take {
-    site: TWO,
-    epoch: 4,
-    n: 1,
-};
+const TAKE_IN_EPOCH_4: Left = ("take", TWO, 4, 1, None);
 
-const PREPARE: Due = Due::Prepare {
-    site: TWO,
-    epoch: 4,
-    n: 2,
-};
+const PREPARE: Left = ("prepare", TWO, 4, 2, None);
 
 const SEVEN: Reply = Reply::Value(7);
 

@@ -22,22 +22,35 @@ const LATE: Doubt = Doubt {
     ticket: 5,
 };
 
+// What is told of a transaction in doubt: its attempt, its epoch and its ticket.
+fn told(doubt: &Doubt) -> (Tid, u32, u64) {
+    (doubt.tid, doubt.epoch, doubt.ticket)
+}
+
+// What is told of an attempt, if it is in doubt.
+fn told_of(book: &PreparedBook, tid: Tid) -> Option<(Tid, u32, u64)> {
+    match book.doubtful(tid) {
+        Some(doubt) => Some(told(&doubt)),
+        None => None,
+    }
+}
+
 #[test]
 fn doubts_stand_by_attempt_until_they_are_settled(rt: HostRuntime) -> Result<(), Fail> {
     let mut book = PreparedBook::new(rt.alloc())?;
     book.reserve(rt.alloc())?;
     book.add(LATE);
-    assert_eq!(rt; book.doubtful(EARLY.tid), None);
+    assert_eq!(rt; told_of(&book, EARLY.tid), None);
     book.reserve(rt.alloc())?;
     book.add(EARLY);
     assert_eq!(rt; book.len(), 2);
-    assert_eq!(rt; *book.at(0), EARLY);
-    assert_eq!(rt; *book.at(1), LATE);
-    assert_eq!(rt; book.doubtful(LATE.tid), Some(LATE));
+    assert_eq!(rt; told(book.at(0)), told(&EARLY));
+    assert_eq!(rt; told(book.at(1)), told(&LATE));
+    assert_eq!(rt; told_of(&book, LATE.tid), Some(told(&LATE)));
     assert!(rt; book.settle(LATE.tid));
     assert!(rt; !book.settle(LATE.tid));
-    assert_eq!(rt; book.doubtful(LATE.tid), None);
-    assert_eq!(rt; book.doubtful(EARLY.tid), Some(EARLY));
+    assert_eq!(rt; told_of(&book, LATE.tid), None);
+    assert_eq!(rt; told_of(&book, EARLY.tid), Some(told(&EARLY)));
     Ok(())
 }
 
@@ -46,8 +59,8 @@ fn a_restart_gives_the_book_its_doubts(rt: HostRuntime) -> Result<(), Fail> {
     let mut book = PreparedBook::new(rt.alloc())?;
     book.restore(rt.alloc(), &[LATE, EARLY])?;
     assert_eq!(rt; book.len(), 2);
-    assert_eq!(rt; *book.at(0), EARLY);
-    assert_eq!(rt; *book.at(1), LATE);
+    assert_eq!(rt; told(book.at(0)), told(&EARLY));
+    assert_eq!(rt; told(book.at(1)), told(&LATE));
     book.restore(rt.alloc(), &[])?;
     assert_eq!(rt; book.len(), 0);
     Ok(())

@@ -1,4 +1,5 @@
 //! Drivers on tapes: each row of the table, and generated tapes against a plain computation of the table.
+use crate::commands::{are_commands, told};
 use client_drivers::{Answer, DoorErr, Driven, TapeDoor, drive_global, drive_local};
 use fed_rules::Command;
 use mdb_base::{Key, Memory, Tid, Tx};
@@ -88,7 +89,7 @@ fn end_of(say: Say) -> Option<bool> {
 fn waits_in_row(calls: &[Command], says: &[Say]) -> u32 {
     let mut waits: u32 = 0;
     for (call, say) in calls.iter().zip(says) {
-        if *call == Command::Step(TX) && *say == Say::Waits {
+        if told(*call) == told(Command::Step(TX)) && *say == Say::Waits {
             waits = waits.saturating_add(1);
         } else {
             waits = 0;
@@ -143,7 +144,7 @@ fn plain_global(calls: &[Command], says: &[Say], tries: u32) -> Command {
 fn again_or_late(calls: &[Command], tid: Tid, tries: u32) -> Command {
     let mut agains: u32 = 0;
     for call in calls {
-        if *call == Command::Again(tid) {
+        if told(*call) == told(Command::Again(tid)) {
             agains = agains.saturating_add(1);
         }
     }
@@ -249,10 +250,11 @@ fn drivers_follow_the_table_on_generated_tapes(rt: HostRuntime) -> Result<(), Fa
             drive_local(&mut door, TX, tries, turns)
         };
         assert_eq!(rt; end, played.end, "end of case {case}");
-        assert_eq!(rt;
+        are_commands(
+            &rt,
             door.calls(),
             played.calls.as_slice(),
-            "calls of case {case}"
+            "the calls on a generated tape",
         );
     }
     Ok(())
@@ -323,7 +325,12 @@ fn a_local_driver_goes_through_each_row(rt: HostRuntime) -> Result<(), Fail> {
     ];
     let mut door = tape_of(rt.alloc(), says.as_slice())?;
     let end = drive_local(&mut door, TX, 2, 100);
-    assert_eq!(rt; door.calls(), wanted.as_slice());
+    are_commands(
+        &rt,
+        door.calls(),
+        wanted.as_slice(),
+        "the calls of each row",
+    );
     let committed = Driven {
         used: 28,
         committed: true,
@@ -372,7 +379,12 @@ fn a_global_driver_goes_through_each_row(rt: HostRuntime) -> Result<(), Fail> {
     ];
     let mut door = tape_of(rt.alloc(), says.as_slice())?;
     let end = drive_global(&mut door, TX, 2, 100);
-    assert_eq!(rt; door.calls(), wanted.as_slice());
+    are_commands(
+        &rt,
+        door.calls(),
+        wanted.as_slice(),
+        "the calls of each row",
+    );
     let spent = Driven {
         used: 16,
         committed: false,

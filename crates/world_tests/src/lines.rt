@@ -1,4 +1,5 @@
 //! The lines that a host is to leave.
+use crate::commands::is_same_line;
 use fed_rules::{Line, Stamped};
 use std::process::Abort;
 use std::test::Fail;
@@ -6,7 +7,7 @@ use trace_lines::read_line;
 
 // Whether a host's line has this stamp and is this one.
 fn is_line(made: &Stamped, stamp: &str, line: &Line) -> bool {
-    stamp.parse::<u64>() == Ok(made.stamp) && made.line == *line
+    stamp.parse::<u64>() == Ok(made.stamp) && is_same_line(&made.line, line)
 }
 
 // A host's line is the one of the text, which begins with its stamp.

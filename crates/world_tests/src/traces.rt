@@ -3,6 +3,7 @@ ghost use Rattle.std.specs.Prelude.{◌≡◌, IfOk, length};
 ghost use Rattle.mdb_base.specs.Words.{Each};
 ghost use Rattle.trace_merge.specs.Traces.{StampsRise};
 
+use crate::commands::{are_commands, is_same_line, told};
 use fed_rules::{Answer, Cause, Command, Line, Place, Places, Stamped, StampedLines};
 use mdb_base::{Edge, Edges, Memory, SiteId, Tid, Tx};
 use presumptions::Decision;
@@ -93,7 +94,7 @@ fn the_lesser_actor_comes_first_at_one_stamp(rt: HostRuntime) -> Result<(), Fail
         Command::Halt { actor: 8, cut: 3 },
     ];
     let commands = commands_of(alloc, &merged)?;
-    assert_eq!(rt; commands.as_slice(), wanted.as_slice());
+    are_commands(&rt, commands.as_slice(), wanted.as_slice(), "one stamp");
     Ok(())
 }
 
@@ -111,7 +112,12 @@ fn generated_lists_are_merged_as_defined(rt: HostRuntime) -> Result<(), Fail> {
         let merged = merge_traces(alloc, lists.as_slice())?;
         let commands = commands_of(alloc, &merged)?;
         let wanted = plain(alloc, lists.as_slice())?;
-        assert_eq!(rt; commands.as_slice(), wanted.as_slice(), "case {case}");
+        are_commands(
+            &rt,
+            commands.as_slice(),
+            wanted.as_slice(),
+            "generated lists",
+        );
     }
     Ok(())
 }
@@ -143,10 +149,10 @@ fn a_line_is_copied_whole(rt: HostRuntime) -> Result<(), Fail> {
     };
     let stamped = Stamped { stamp: 9, line };
     let copy = stamped.clone()?;
-    assert!(rt; copy == stamped);
-    assert_eq!(rt; copy.stamp, 9);
-    assert_eq!(rt; copy.line.command, Command::Late(tid));
-    assert_eq!(rt; copy.line.sends.as_slice(), [place].as_slice());
+    assert!(rt; is_same_line(&copy.line, &stamped.line));
+    assert_eq!(rt; (copy.stamp, stamped.stamp), (9, 9));
+    assert_eq!(rt; told(copy.line.command), told(Command::Late(tid)));
+    assert!(rt; copy.line.sends.as_slice() == [place].as_slice());
     match &copy.line.answer {
         Answer::Decides {
             cause: Some(Cause::Cycle(edges)),

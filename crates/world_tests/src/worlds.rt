@@ -7,6 +7,7 @@ mod conservative;
 mod failing;
 mod sessions;
 
+use crate::commands::is_same_line;
 use fed_rules::{Command, Scenario};
 use fed_world::{World, WorldErr};
 use journal_disk::MemDisk;
@@ -59,7 +60,7 @@ fn step(
 fn has_front(rt: &impl Abort, alloc: Global, world: &World, script: &str) -> Result<(), Fail> {
     for (made, text) in world.lines().iter().zip(script.lines()) {
         let line = read_line(alloc, text.as_bytes())?;
-        assert!(rt; *made == line, "{text}");
+        assert!(rt; is_same_line(made, &line), "{text}");
     }
     Ok(())
 }
@@ -97,7 +98,7 @@ fn carry_out(
         }
         count += 1;
         match world.lines().last() {
-            Some(made) => assert!(rt; *made == line, "{text}"),
+            Some(made) => assert!(rt; is_same_line(made, &line), "{text}"),
             None => return Err(Fail::from("a command has a line")),
         }
     }

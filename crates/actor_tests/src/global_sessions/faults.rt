@@ -293,7 +293,7 @@ fn is_asked_again<P: TakePolicy>(
     let start = Command::Back { actor: 0 };
     assert!(rt; !is_stopped(alloc, manager, disk, channels, start)?);
     assert!(rt; !is_stopped(alloc, manager, disk, channels, command)?);
-    assert!(rt; !stand_twice(manager.core().records()), "{command:?}");
+    assert!(rt; !stand_twice(manager.core().records()));
     Ok(())
 }
 

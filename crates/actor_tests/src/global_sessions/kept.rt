@@ -2,6 +2,7 @@
 ghost use Rattle.std.specs.Prelude.{◌<◌, OnOk};
 ghost use Rattle.actor_tests.specs.GlobalSessions.{IsOfThree};
 
+use crate::messages::are_same_sends;
 use fed_rules::{Answer, CoordRecord, CoordStep, FromSite, Sent, ToSite};
 use global_exec::TakePolicy;
 use global_manager::{CoordAsk, GlobalManager};
@@ -129,7 +130,7 @@ fn is_sent_again(
         Answer::Idle | Answer::None => !kept.open,
         _ => false,
     };
-    Ok(said && step.sends.as_slice() == sent.as_slice())
+    Ok(said && are_same_sends(step.sends.as_slice(), sent.as_slice()))
 }
 
 // Whether an inquiry of a site of this protocol is answered as the records say.
@@ -150,7 +151,8 @@ fn is_told(
         Answer::Presumes(told) => !kept.open && told == decision,
         _ => false,
     };
-    said && step.sends.as_slice() == [decides(site, attempt.tid, decision)].as_slice()
+    let wanted = [decides(site, attempt.tid, decision)];
+    said && are_same_sends(step.sends.as_slice(), wanted.as_slice())
 }
 
 // An inquiry of a participant is answered as the records say.

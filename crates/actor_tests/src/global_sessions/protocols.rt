@@ -1,5 +1,6 @@
 //! Sessions of one global transaction: how it is carried out, committed, aborted and forgotten by the protocols of its sites.
 use super::play::{add, get, global, plays, set};
+use crate::messages::are_same_sends;
 use fed_rules::{Sent, ToSite};
 use global_exec::Always;
 use mdb_base::{Key, PlainAct, SiteId, Tid, Tx};
@@ -118,7 +119,7 @@ give 2 4 => settles 1.0 commit";
         commit(1),
         commit(2),
     ];
-    assert_eq!(rt; sent.as_slice(), expected.as_slice());
+    assert!(rt; are_same_sends(sent.as_slice(), expected.as_slice()));
     Ok(())
 }
 
@@ -187,7 +188,7 @@ fn those_that_presume_the_other_way_acknowledge(rt: HostRuntime) -> Result<(), F
         commit(3),
         commit(3),
     ];
-    assert_eq!(rt; sent.as_slice(), expected.as_slice());
+    assert!(rt; are_same_sends(sent.as_slice(), expected.as_slice()));
     Ok(())
 }
 

@@ -9,6 +9,7 @@ use super::play::{
 };
 use super::protocols::{ACKNOWLEDGED, COMMITTED, FIRST, MIXED, PREPARED};
 use super::tickets::{CYCLE, CYCLE_OVER_LOCALS, DECIDED, FORGOTTEN, NOTHING};
+use crate::messages::are_same_sends;
 use coord_journal::CoordJournal;
 use fed_rules::{Command, CoordStep, FromSite};
 use global_exec::{Always, TakePolicy};
@@ -162,7 +163,7 @@ fn tell_alike(rt: &impl Abort, old: &[CoordStep], new: &[CoordStep], place: &str
             "{place}, answer {number}"
         );
         let (sent, sent_anew) = (from_old.sends.as_slice(), from_new.sends.as_slice());
-        assert!(rt; sent == sent_anew, "{place}, answer {number}");
+        assert!(rt; are_same_sends(sent, sent_anew), "{place}, answer {number}");
     }
 }
 

@@ -88,7 +88,7 @@ fn is_asked_again(
     let start = Command::Back { actor: 1 };
     assert!(rt; !is_stopped(alloc, dbms, disk, foreign, lines, start)?);
     assert!(rt; !is_stopped(alloc, dbms, disk, foreign, lines + 2, command)?);
-    assert!(rt; !stand_twice(dbms.core().records()), "{command:?}");
+    assert!(rt; !stand_twice(dbms.core().records()), "{lines}");
     Ok(())
 }
 

@@ -7,6 +7,7 @@ ghost use Rattle.fed_rules.specs.Usable.{home_of_first};
 ghost use Rattle.actor_tests.specs.LocalSessions.{HasJournal, IsOfLines};
 
 use super::{OTHER, SET_5_TO_1, SITE, asks, local_site, play};
+use crate::messages::is_same_reply;
 use any_engine::AnyEngine;
 use fed_rules::{Command, SiteRecord, SiteStep};
 use journal_disk::{Disk, MemDisk};
@@ -172,9 +173,15 @@ fn told(
 // Two sites told the same.
 fn tell_alike(rt: &impl Abort, old: &[SiteStep], new: &[SiteStep], script: &str) {
     assert_eq!(rt; new.len(), old.len());
-    for ((from_old, from_new), command) in old.iter().zip(new).zip(&questions()) {
-        assert!(rt; from_old.answer == from_new.answer, "{script}{command:?}");
-        assert!(rt; from_old.sends == from_new.sends, "{script}{command:?}");
+    for (place, (from_old, from_new)) in old.iter().zip(new).enumerate() {
+        assert!(rt;
+            from_old.answer == from_new.answer,
+            "{script}question {place}"
+        );
+        assert!(rt;
+            is_same_reply(from_old.sends, from_new.sends),
+            "{script}question {place}"
+        );
     }
 }
 

@@ -1,6 +1,6 @@
 //! How deeds are done to a table of attempts, and what comes of each.
 use global_exec::{DidEnd, Due, Dues, GlobalExec};
-use mdb_base::{Act, Key, Memory, Program, Reply, SiteId, Step, Tid, Tx};
+use mdb_base::{Act, Key, Memory, PlainAct, Program, Reply, SiteId, Step, Tid, Tx};
 use std::alloc::Global;
 use std::process::Abort;
 use std::test::Fail;
@@ -63,6 +63,9 @@ pub(super) enum Deed {
     Reads,
 }
 
+/// What is outstanding at a site: what it is called, the epoch, the count, and the act of a work.
+pub(super) type Left = (&'static str, SiteId, u32, u8, Option<PlainAct>);
+
 /// What comes of a deed.
 #[derive(Clone, Copy, PartialEq, Eq)]
 pub(super) enum Came {
@@ -72,15 +75,31 @@ pub(super) enum Came {
     Waits,
     Refused,
     /// This is outstanding, or became so: the first and the second of it.
-    Dues(Option<Due>, Option<Due>),
+    Dues(Option<Left>, Option<Left>),
     /// How many values were read, and the last one.
     Values(usize, Option<u64>),
     Holds(bool),
 }
 
+fn left_of(due: Due) -> Left {
+    match due {
+        Due::Work {
+            site,
+            epoch,
+            n,
+            act,
+        } => ("work", site, epoch, n, Some(act)),
+        Due::Take { site, epoch, n } => ("take", site, epoch, n, None),
+        Due::Prepare { site, epoch, n } => ("prepare", site, epoch, n, None),
+    }
+}
+
 // What is outstanding at this place.
-fn due_at(dues: &Dues, place: usize) -> Option<Due> {
-    dues.as_slice().get(place).copied()
+fn due_at(dues: &Dues, place: usize) -> Option<Left> {
+    match dues.as_slice().get(place) {
+        Some(due) => Some(left_of(*due)),
+        None => None,
+    }
 }
 
 fn outstanding(dues: &Dues) -> Came {
