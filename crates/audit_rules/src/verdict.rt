@@ -1,7 +1,7 @@
 //! What an audit finds.
 
 /// Why a printed line doesn't agree, the first reason that fits.
-#[derive(Clone, Copy, Debug, PartialEq, Eq)]
+#[derive(Clone, Copy)]
 pub enum What {
     /// It is no line of a session, or no line of a report stands here where one is due, or one more stands behind the
     /// last.
@@ -27,7 +27,7 @@ pub enum What {
 }
 
 /// Whether a printed run agrees with its scenario, or the first line at which it doesn't, counted from 1.
-#[derive(Clone, Copy, Debug, PartialEq, Eq)]
+#[derive(Clone, Copy)]
 pub enum Verdict {
     Agrees,
     Differs { line: u32, what: What },

@@ -8,7 +8,7 @@ use global_manager::CoordAsk;
 use mdb_base::{Tid, Tx};
 
 /// What a client asks of a global transaction or of an attempt of one.
-#[derive(Clone, Copy, Debug, PartialEq, Eq)]
+#[derive(Clone, Copy)]
 pub(crate) enum CoordCall {
     Go(Tx),
     Fate(Tx),

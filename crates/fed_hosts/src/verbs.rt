@@ -7,7 +7,7 @@ use local_dbms::SiteAsk;
 use mdb_base::Tx;
 
 /// What a client asks of a local transaction.
-#[derive(Clone, Copy, Debug, PartialEq, Eq)]
+#[derive(Clone, Copy)]
 pub(crate) enum Verb {
     Begin,
     Step,

@@ -11,7 +11,7 @@ pub use encoding::{encode_from, encode_to};
 pub use fed_rules::{FromSite, ToSite};
 
 /// A message with the number of its packet and its stamp (Lamport 1978).
-#[derive(Clone, Copy, Debug, PartialEq, Eq)]
+#[derive(Clone, Copy)]
 pub struct Envelope<M> {
     pub index: u32,
     pub stamp: u64,
