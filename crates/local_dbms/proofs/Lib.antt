@@ -2,6 +2,7 @@ pub mod ForCallers
 mod Asked
 mod Asking
 mod Bounds
+mod Comes
 mod Fit
 mod FoundLaws
 mod Lines

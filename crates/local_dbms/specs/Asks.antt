@@ -39,6 +39,16 @@ can_send (At.Give message) = true
 can_send (At.Ask tid) = true
 can_send ask = false
 
+-- an inquiry, or what an operator asks: it goes to the core as it is, whatever the past
+abbrev pub is_operation : SiteAsk → Bool
+is_operation (At.Ask tid) = true
+is_operation (At.Drop tid) = true
+is_operation (At.Halt cut) = true
+is_operation (At.Trip calls cut) = true
+is_operation At.Back = true
+is_operation At.Check = true
+is_operation ask = false
+
 -- what comes of it, from what the site stood for before to what it stands for after
 module _ (before after : Home → OwnPrograms → SitePast → Type 0) (ask : SiteAsk) where
   -- of each past for which it stood, where this may be asked, the step is the answer to the request, with what that sends and leaves

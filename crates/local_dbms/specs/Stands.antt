@@ -30,8 +30,6 @@ use Rattle.fed_rules.specs.Site_of.{about}
 use Rattle.site_core.specs.Stands.{Holds, Stands as CoreStands, StopAt, stopped_past}
 use Rattle.site_core.specs.Steps.{CanStep}
 use Rattle.local_dbms.specs.declared.dbms.LocalDbms.{LocalDbms}
-use Rattle.local_dbms.specs.declared.requests.Request.{Request as Asked}
-use Rattle.local_dbms.specs.declared.requests.Request.TheVariants as Asked_is
 
 -- an event names a transaction of the site's own, a begin also its next attempt, of at most 32, and a message is about none of them
 abbrev pub FitsPrograms : OwnPrograms → SitePast → SiteEvent → Type 0
@@ -111,16 +109,6 @@ Fails K Err_is.Disk home programs past (Declines answer) = ⊥
 -- the event may come to the core, and fits the programs
 abbrev pub CanSubmit : SiteEvent → Home → OwnPrograms → SitePast → Type 0
 CanSubmit event home programs past = CanStep event home past × FitsPrograms programs past event
-
--- what is asked may be served
-abbrev pub CanServe : Asked → Home → OwnPrograms → SitePast → Type 0
-CanServe (Asked_is.Submits event) home programs past = CanSubmit event home programs past
-CanServe (Asked_is.Declines answer) home programs past = Unit {0}
-
--- the request of the rules
-abbrev pub request_of : Asked → Request SiteEvent
-request_of (Asked_is.Submits event) = Submits event
-request_of (Asked_is.Declines answer) = Declines answer
 
 -- a message that may be given: it is about an attempt in its range, of no transaction of the site's own
 pub record CanGive (message : ToSite) (home : Home) (programs : OwnPrograms) (past : SitePast) : Type 0 where

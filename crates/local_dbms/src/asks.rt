@@ -1,13 +1,12 @@
 //! What is asked of a local database system, and how it answers.
-ghost use Rattle.std.specs.Prelude.{◌≡◌, IsTrue, IfOk, IfErr, Ok, None, false};
+ghost use Rattle.std.specs.Prelude.{◌≡◌, IsTrue, IfOk, IfErr, None, false};
 ghost use Rattle.mdb_base.specs.Counts.{HasCauseOf};
 ghost use Rattle.local_dbms.specs.Asks.{CanAsk, FailsOn, ServesOn, can_send};
 ghost use Rattle.local_dbms.specs.Stands.{Some_site, Stands};
 
 use crate::dbms::LocalDbms;
-use crate::requests::Request;
 use engine_contract::LocalEngine;
-use fed_rules::{Answer, SiteEvent, SiteStep, ToSite};
+use fed_rules::{SiteEvent, SiteStep, ToSite};
 use journal_disk::Disk;
 use mdb_base::{Tid, Tx};
 use site_core::StepErr;
@@ -61,9 +60,18 @@ impl<E: LocalEngine> LocalDbms<E> {
         ensures cause { HasCauseOf StepErr.Disk (D.seen disk.old).faults (D.seen disk.new).faults result }
     {
         match ask {
-            // Most of what is asked are messages, and a message needs no request.
             SiteAsk::Give(message) => self.give(alloc, disk, message),
-            _ => self.serve(alloc, disk, ask),
+            SiteAsk::Begin(tx) => self.begin(alloc, disk, tx),
+            SiteAsk::Step(tx) => self.step(alloc, disk, tx),
+            SiteAsk::Commit(tx) => self.commit(alloc, disk, tx),
+            SiteAsk::Abort(tx) => self.abort(alloc, disk, tx),
+            SiteAsk::Fate(tx) => self.fate(alloc, disk, tx),
+            SiteAsk::Ask(_)
+            | SiteAsk::Drop(_)
+            | SiteAsk::Halt { .. }
+            | SiteAsk::Trip { .. }
+            | SiteAsk::Back
+            | SiteAsk::Check => self.operate(alloc, disk, &ask),
         }
     }
 
@@ -82,34 +90,4 @@ impl<E: LocalEngine> LocalDbms<E> {
     {
         self.core.step(alloc, disk, SiteEvent::Give(message))
     }
-
-    /// Answers what is asked by what it comes to.
-    fn serve<D: Disk>(
-        &mut self,
-        alloc: Global,
-        disk: &mut D,
-        ask: SiteAsk,
-    ) -> Result<SiteStep, StepErr>
-        requires told { IsTrue D.tells }
-        requires stood { Some_site (Stands E.stands D.tells self.old (D.seen disk.old)) (CanAsk ask) }
-        ensures served { IfOk result (ServesOn (Stands E.stands D.tells self.old (D.seen disk.old)) (Stands E.stands D.tells self.new (D.seen disk.new)) ask) }
-        ensures failed { IfErr result (FailsOn (Stands E.stands D.tells self.old (D.seen disk.old)) (Stands E.stands D.tells self.new (D.seen disk.new)) ask) }
-        ensures quiet { IfOk result (λ step. can_send ask ≡ false → step.sends ≡ None) }
-        ensures cause { HasCauseOf StepErr.Disk (D.seen disk.old).faults (D.seen disk.new).faults result }
-    {
-        match self.requested(ask) {
-            Request::Declines(answer) => declined(answer),
-            Request::Submits(event) => self.core.step(alloc, disk, event),
-        }
-    }
-}
-
-/// The answer to what is asked without an event.
-fn declined(answer: Answer) -> Result<SiteStep, StepErr>
-    ensures { result ≡ Ok (record { answer = answer; sends = None }) }
-{
-    Ok(SiteStep {
-        answer,
-        sends: None,
-    })
 }

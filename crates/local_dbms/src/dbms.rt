@@ -1,6 +1,5 @@
 //! A local database system, and with what it begins.
 ghost use Rattle.std.specs.Prelude.{◌≡◌, ◌≤◌, [], Bool, length, IsTrue, IfOk, IsErrOf};
-ghost use Rattle.std.specs.Option.{option_copied};
 ghost use Rattle.mdb_base.specs.Counts.{HasCauseOf};
 ghost use Rattle.mdb_base.specs.Words.{Each};
 ghost use Rattle.record_fields.specs.Named.{IsSite};
@@ -16,14 +15,14 @@ ghost use Rattle.local_dbms.specs.Found.{found_programs};
 ghost use Rattle.site_core.specs.Found.{IsFoundOn, SomeJournal};
 ghost use Rattle.site_core.specs.Stands.{Holds, IsOfKind, Stands as CoreStands};
 ghost use Rattle.site_core.specs.Store.{SomeStop};
-ghost use Rattle.local_dbms.specs.Stands.{Each_site, IsNamed, Recalls, Stands, home_from, own_programs, program_in};
+ghost use Rattle.local_dbms.specs.Stands.{Each_site, IsNamed, Recalls, Stands, home_from, own_programs};
 
 use crate::found::programs_found;
 use crate::programs::programs_of;
 use engine_contract::LocalEngine;
 use fed_rules::{SiteLine, TxLine};
 use journal_disk::Disk;
-use mdb_base::{Memory, Program, Puts, Tx};
+use mdb_base::{Memory, Program, Puts};
 use site_core::{SiteCore, StepErr};
 use std::alloc::Global;
 
@@ -93,15 +92,5 @@ impl<E: LocalEngine> LocalDbms<E> {
         ensures held { Each_site (Recalls E.stands self.now) (λ home programs past. Holds E.stands result.now home past) }
     {
         &self.core
-    }
-
-    /// The program of the transaction, where it is one of the site's own.
-    pub(crate) fn program_of(&self, tx: Tx) -> Option<&Program>
-        ensures { option_copied result ≡ program_in self.now.programs.items tx }
-    {
-        match self.programs.get(tx.0 as usize) {
-            Some(Some(program)) => Some(program),
-            _ => None,
-        }
     }
 }

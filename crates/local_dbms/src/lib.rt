@@ -6,6 +6,7 @@ mod asks;
 mod dbms;
 mod found;
 mod looks;
+mod operations;
 mod programs;
 mod requests;
 

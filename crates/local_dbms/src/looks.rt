@@ -8,6 +8,7 @@ ghost use Rattle.journal_disk.specs.Disk.{Seen};
 ghost use Rattle.local_dbms.specs.Stands.{Each_site, Recalls, Serves, Stands};
 
 use crate::dbms::LocalDbms;
+use crate::programs::find;
 use engine_contract::LocalEngine;
 use fed_rules::Answer;
 use mdb_base::Tx;
@@ -17,7 +18,7 @@ impl<E: LocalEngine> LocalDbms<E> {
     pub fn is_own(&self, tx: Tx) -> bool
         ensures { Each_site (Recalls E.stands self.now) (λ home programs past. result ≡ is_some (programs tx)) }
     {
-        self.program_of(tx).is_some()
+        find(&self.programs, tx).is_some()
     }
 
     /// Whether one of the site's own transactions is neither running nor committed at a site that is up, so that a begin would begin an

@@ -1,5 +1,6 @@
 //! The programs of a site's local transactions, and the plain act of a step.
 ghost use Rattle.std.specs.Prelude.{◌≡◌, ◌<◌, IfOk, OnOk, Some, length, slice_index};
+ghost use Rattle.std.specs.Option.{option_copied};
 ghost use Rattle.mdb_base.specs.Programs.{plain_act};
 ghost use Rattle.mdb_base.specs.declared.names.Tx.{Tx as TheTx};
 ghost use Rattle.local_dbms.specs.Stands.{AreOwn, noted, program_at, program_in};
@@ -42,6 +43,16 @@ pub(crate) fn reach(programs: &mut Vec<Option<Program>>, tx: Tx) -> Result<(), M
         programs.push(None)?;
     }
     Ok(())
+}
+
+/// The program of the transaction, where it is one of these.
+pub(crate) fn find(programs: &Vec<Option<Program>>, tx: Tx) -> Option<&Program>
+    ensures { option_copied result ≡ program_in programs.now.items tx }
+{
+    match programs.get(tx.0 as usize) {
+        Some(Some(program)) => Some(program),
+        _ => None,
+    }
 }
 
 /// The program of a line, where its transaction is local at this site.

@@ -1,28 +1,34 @@
-//! What is asked of a site comes to an event that its core answers, or to an answer without one.
-ghost use Rattle.std.specs.Prelude.{ℕ, ◌≡◌, IsSome};
+//! What is asked of a site about its own transactions, which it looks up before it submits an event to its core.
+ghost use Rattle.std.specs.Prelude.{ℕ, ◌≡◌, IfErr, IfOk, IsSome, IsTrue, None, Ok};
+ghost use Rattle.mdb_base.specs.Counts.{HasCauseOf};
 ghost use Rattle.fed_rules.specs.declared.events.SiteEvent.TheVariants as Ev;
 ghost use Rattle.fed_rules.specs.Requests.{attempt, unless_begun};
 ghost use Rattle.fed_rules.specs.Site.{site_line};
-ghost use Rattle.fed_rules.specs.SiteCommands as Verb;
-ghost use Rattle.fed_rules.specs.SiteCommands.{own_request};
-ghost use Rattle.local_dbms.specs.Asks.{CanAsk, site_request};
-ghost use Rattle.local_dbms.specs.Stands.{CanServe, Each_site, IsShort, Recalls, request_of};
+ghost use Rattle.local_dbms.specs.Asks.{CanAsk, FailsOn, ServesOn};
+ghost use Rattle.local_dbms.specs.Stands.{Each_site, Recalls, Some_site, Stands};
 
 use crate::asks::SiteAsk;
 use crate::dbms::LocalDbms;
-use crate::programs::plain;
+use crate::programs::{find, plain};
 use engine_contract::LocalEngine;
-use fed_rules::{Answer, SiteEvent};
+use fed_rules::{Answer, SiteEvent, SiteStep};
+use journal_disk::Disk;
 use mdb_base::{Tid, Tx};
-
-/// An event that the core answers, or an answer without one, which changes nothing.
-pub(crate) enum Request {
-    Submits(SiteEvent),
-    Declines(Answer),
-}
+use site_core::StepErr;
+use std::alloc::Global;
 
 /// How many attempts a transaction has.
 const MOST_ATTEMPTS: u32 = 32;
+
+/// An answer without an event, which sends nothing.
+fn declined(answer: Answer) -> Result<SiteStep, StepErr>
+    ensures { result ≡ Ok (record { answer = answer; sends = None }) }
+{
+    Ok(SiteStep {
+        answer,
+        sends: None,
+    })
+}
 
 impl<E: LocalEngine> LocalDbms<E> {
     /// What a begin behind the last attempt of a transaction is answered: what the rule says to a begin, but spent where one more
@@ -43,123 +49,142 @@ impl<E: LocalEngine> LocalDbms<E> {
         Answer::Spent
     }
 
-    /// What `begin` comes to.
-    fn asks_begin(&self, tx: Tx) -> Request
-        ensures asked { Each_site (Recalls E.stands self.now) (λ home programs past. request_of result ≡ own_request Verb.Begin home (programs tx) past tx) }
-        ensures may { Each_site (Recalls E.stands self.now) (λ home programs past. IsShort home programs past → CanServe result home programs past) }
+    /// Answers `begin`: the next attempt of one of the site's own transactions begins, unless all were begun.
+    pub(crate) fn begin<D: Disk>(
+        &mut self,
+        alloc: Global,
+        disk: &mut D,
+        tx: Tx,
+    ) -> Result<SiteStep, StepErr>
+        requires told { IsTrue D.tells }
+        requires stood { Some_site (Stands E.stands D.tells self.old (D.seen disk.old)) (CanAsk (SiteAsk.Begin tx)) }
+        ensures served { IfOk result (ServesOn (Stands E.stands D.tells self.old (D.seen disk.old)) (Stands E.stands D.tells self.new (D.seen disk.new)) (SiteAsk.Begin tx)) }
+        ensures failed { IfErr result (FailsOn (Stands E.stands D.tells self.old (D.seen disk.old)) (Stands E.stands D.tells self.new (D.seen disk.new)) (SiteAsk.Begin tx)) }
+        ensures cause { HasCauseOf StepErr.Disk (D.seen disk.old).faults (D.seen disk.new).faults result }
     {
-        if self.program_of(tx).is_none() {
-            return Request::Declines(Answer::None);
+        if find(&self.programs, tx).is_none() {
+            return declined(Answer::None);
         }
         let begun = self.core.begun(tx);
         if begun >= MOST_ATTEMPTS {
-            return Request::Declines(self.spent(tx));
+            let answer = self.spent(tx);
+            return declined(answer);
         }
-        Request::Submits(SiteEvent::Begin(Tid {
+        let tid = Tid {
             tx,
             attempt: begun as u8,
-        }))
+        };
+        self.core.step(alloc, disk, SiteEvent::Begin(tid))
     }
 
-    /// What `step` comes to.
-    fn asks_step(&self, tx: Tx) -> Request
-        ensures asked { Each_site (Recalls E.stands self.now) (λ home programs past. request_of result ≡ own_request Verb.Step_on home (programs tx) past tx) }
-        ensures may { Each_site (Recalls E.stands self.now) (λ home programs past. IsShort home programs past → CanServe result home programs past) }
+    /// Answers `step`: the running attempt of a transaction does the next step of its program.
+    pub(crate) fn step<D: Disk>(
+        &mut self,
+        alloc: Global,
+        disk: &mut D,
+        tx: Tx,
+    ) -> Result<SiteStep, StepErr>
+        requires told { IsTrue D.tells }
+        requires stood { Some_site (Stands E.stands D.tells self.old (D.seen disk.old)) (CanAsk (SiteAsk.Step tx)) }
+        ensures served { IfOk result (ServesOn (Stands E.stands D.tells self.old (D.seen disk.old)) (Stands E.stands D.tells self.new (D.seen disk.new)) (SiteAsk.Step tx)) }
+        ensures failed { IfErr result (FailsOn (Stands E.stands D.tells self.old (D.seen disk.old)) (Stands E.stands D.tells self.new (D.seen disk.new)) (SiteAsk.Step tx)) }
+        ensures cause { HasCauseOf StepErr.Disk (D.seen disk.old).faults (D.seen disk.new).faults result }
     {
-        let Some(program) = self.program_of(tx) else {
-            return Request::Declines(Answer::None);
+        let Some(program) = find(&self.programs, tx) else {
+            return declined(Answer::None);
         };
         if self.core.is_down() {
-            return Request::Declines(Answer::Down);
+            return declined(Answer::Down);
         }
         let Some(tid) = self.core.running(tx) else {
-            return Request::Declines(Answer::Idle);
+            return declined(Answer::Idle);
         };
         let Some(noted) = self.core.live(tid) else {
-            return Request::Declines(Answer::Idle);
+            return declined(Answer::Idle);
         };
         let done = noted.done() as usize;
         if done >= program.len() {
-            return Request::Declines(Answer::End);
+            return declined(Answer::End);
         }
-        Request::Submits(SiteEvent::Act {
-            tid,
-            act: plain(program.at(done).act, noted.reads()),
-        })
+        let act = plain(program.at(done).act, noted.reads());
+        self.core.step(alloc, disk, SiteEvent::Act { tid, act })
     }
 
-    /// What `commit` comes to.
-    fn asks_commit(&self, tx: Tx) -> Request
-        ensures asked { Each_site (Recalls E.stands self.now) (λ home programs past. request_of result ≡ own_request Verb.Commit home (programs tx) past tx) }
-        ensures may { Each_site (Recalls E.stands self.now) (λ home programs past. IsShort home programs past → CanServe result home programs past) }
+    /// Answers `commit`: the running attempt of a transaction commits, once every step is done.
+    pub(crate) fn commit<D: Disk>(
+        &mut self,
+        alloc: Global,
+        disk: &mut D,
+        tx: Tx,
+    ) -> Result<SiteStep, StepErr>
+        requires told { IsTrue D.tells }
+        requires stood { Some_site (Stands E.stands D.tells self.old (D.seen disk.old)) (CanAsk (SiteAsk.Commit tx)) }
+        ensures served { IfOk result (ServesOn (Stands E.stands D.tells self.old (D.seen disk.old)) (Stands E.stands D.tells self.new (D.seen disk.new)) (SiteAsk.Commit tx)) }
+        ensures failed { IfErr result (FailsOn (Stands E.stands D.tells self.old (D.seen disk.old)) (Stands E.stands D.tells self.new (D.seen disk.new)) (SiteAsk.Commit tx)) }
+        ensures cause { HasCauseOf StepErr.Disk (D.seen disk.old).faults (D.seen disk.new).faults result }
     {
-        let Some(program) = self.program_of(tx) else {
-            return Request::Declines(Answer::None);
+        let Some(program) = find(&self.programs, tx) else {
+            return declined(Answer::None);
         };
         if self.core.is_down() {
-            return Request::Declines(Answer::Down);
+            return declined(Answer::Down);
         }
         let Some(tid) = self.core.running(tx) else {
-            return Request::Declines(Answer::Idle);
+            return declined(Answer::Idle);
         };
         let Some(noted) = self.core.live(tid) else {
-            return Request::Declines(Answer::Idle);
+            return declined(Answer::Idle);
         };
         if (noted.done() as usize) < program.len() {
-            return Request::Declines(Answer::Unfinished);
+            return declined(Answer::Unfinished);
         }
-        Request::Submits(SiteEvent::Commit(tid))
+        self.core.step(alloc, disk, SiteEvent::Commit(tid))
     }
 
-    /// What `abort` comes to.
-    fn asks_abort(&self, tx: Tx) -> Request
-        ensures asked { Each_site (Recalls E.stands self.now) (λ home programs past. request_of result ≡ own_request Verb.Abort home (programs tx) past tx) }
-        ensures may { Each_site (Recalls E.stands self.now) (λ home programs past. IsShort home programs past → CanServe result home programs past) }
+    /// Answers `abort`: the running attempt of a transaction ends.
+    pub(crate) fn abort<D: Disk>(
+        &mut self,
+        alloc: Global,
+        disk: &mut D,
+        tx: Tx,
+    ) -> Result<SiteStep, StepErr>
+        requires told { IsTrue D.tells }
+        requires stood { Some_site (Stands E.stands D.tells self.old (D.seen disk.old)) (CanAsk (SiteAsk.Abort tx)) }
+        ensures served { IfOk result (ServesOn (Stands E.stands D.tells self.old (D.seen disk.old)) (Stands E.stands D.tells self.new (D.seen disk.new)) (SiteAsk.Abort tx)) }
+        ensures failed { IfErr result (FailsOn (Stands E.stands D.tells self.old (D.seen disk.old)) (Stands E.stands D.tells self.new (D.seen disk.new)) (SiteAsk.Abort tx)) }
+        ensures cause { HasCauseOf StepErr.Disk (D.seen disk.old).faults (D.seen disk.new).faults result }
     {
-        if self.program_of(tx).is_none() {
-            return Request::Declines(Answer::None);
+        if find(&self.programs, tx).is_none() {
+            return declined(Answer::None);
         }
         if self.core.is_down() {
-            return Request::Declines(Answer::Down);
+            return declined(Answer::Down);
         }
         let Some(tid) = self.core.running(tx) else {
-            return Request::Declines(Answer::Idle);
+            return declined(Answer::Idle);
         };
         if self.core.live(tid).is_none() {
-            return Request::Declines(Answer::Idle);
+            return declined(Answer::Idle);
         }
-        Request::Submits(SiteEvent::Abort(tid))
+        self.core.step(alloc, disk, SiteEvent::Abort(tid))
     }
 
-    /// What `fate` comes to.
-    fn asks_fate(&self, tx: Tx) -> Request
-        ensures asked { Each_site (Recalls E.stands self.now) (λ home programs past. request_of result ≡ own_request Verb.Fate home (programs tx) past tx) }
-        ensures may { Each_site (Recalls E.stands self.now) (λ home programs past. IsShort home programs past → CanServe result home programs past) }
+    /// Answers `fate`.
+    pub(crate) fn fate<D: Disk>(
+        &mut self,
+        alloc: Global,
+        disk: &mut D,
+        tx: Tx,
+    ) -> Result<SiteStep, StepErr>
+        requires told { IsTrue D.tells }
+        requires stood { Some_site (Stands E.stands D.tells self.old (D.seen disk.old)) (CanAsk (SiteAsk.Fate tx)) }
+        ensures served { IfOk result (ServesOn (Stands E.stands D.tells self.old (D.seen disk.old)) (Stands E.stands D.tells self.new (D.seen disk.new)) (SiteAsk.Fate tx)) }
+        ensures failed { IfErr result (FailsOn (Stands E.stands D.tells self.old (D.seen disk.old)) (Stands E.stands D.tells self.new (D.seen disk.new)) (SiteAsk.Fate tx)) }
+        ensures cause { HasCauseOf StepErr.Disk (D.seen disk.old).faults (D.seen disk.new).faults result }
     {
-        if self.program_of(tx).is_none() {
-            return Request::Declines(Answer::None);
+        if find(&self.programs, tx).is_none() {
+            return declined(Answer::None);
         }
-        Request::Submits(SiteEvent::Fate(tx))
-    }
-
-    /// What comes of what is asked.
-    pub(crate) fn requested(&self, ask: SiteAsk) -> Request
-        ensures asked { Each_site (Recalls E.stands self.now) (λ home programs past. request_of result ≡ site_request ask home programs past) }
-        ensures may { Each_site (Recalls E.stands self.now) (λ home programs past. CanAsk ask home programs past → CanServe result home programs past) }
-    {
-        match ask {
-            SiteAsk::Begin(tx) => self.asks_begin(tx),
-            SiteAsk::Step(tx) => self.asks_step(tx),
-            SiteAsk::Commit(tx) => self.asks_commit(tx),
-            SiteAsk::Abort(tx) => self.asks_abort(tx),
-            SiteAsk::Fate(tx) => self.asks_fate(tx),
-            SiteAsk::Give(message) => Request::Submits(SiteEvent::Give(message)),
-            SiteAsk::Ask(tid) => Request::Submits(SiteEvent::Ask(tid)),
-            SiteAsk::Drop(tid) => Request::Submits(SiteEvent::Drop(tid)),
-            SiteAsk::Halt { cut } => Request::Submits(SiteEvent::Halt { cut }),
-            SiteAsk::Trip { calls, cut } => Request::Submits(SiteEvent::Trip { calls, cut }),
-            SiteAsk::Back => Request::Submits(SiteEvent::Back),
-            SiteAsk::Check => Request::Submits(SiteEvent::Check),
-        }
+        self.core.step(alloc, disk, SiteEvent::Fate(tx))
     }
 }

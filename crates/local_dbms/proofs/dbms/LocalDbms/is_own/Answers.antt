@@ -8,4 +8,4 @@ copied_some None = refl
 copied_some (Some x) = refl
 
 pub returns : goal.returns
-returns g c home programs past r = c.is_some.ensures ∙ sym (copied_some c.program_of.result) ∙ ap is_some (c.program_of.ensures ∙ r.owns.held c.args.tx)
+returns g c home programs past r = c.is_some.ensures ∙ sym (copied_some c.find.result) ∙ ap is_some (c.find.ensures ∙ r.owns.held c.args.tx)
