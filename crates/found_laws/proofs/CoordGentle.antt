@@ -1,10 +1,11 @@
 -- What a line of the coordinator sends where nobody is undecided and nothing begins: decisions alone; and then nobody is undecided behind it.
-use Rattle.std.proofs.Common.{◌≡◌, ℕ, ◌&&◌, Bool, true, false, cond, Option, Some, None, List, [], ◌∷◌, map, refl, sym, ap, subst, ◌∙◌, inl, inr}
+use Rattle.std.proofs.Common.{◌≡◌, ℕ, ◌&&◌, Bool, true, false, cond, Option, Some, None, List, [], ◌∷◌, map, refl, sym, ap, subst, inl, inr}
 use Rattle.mdb_base.specs.declared.names.SiteId.{SiteId}
 use Rattle.mdb_base.specs.declared.names.Tid.{Tid}
 use Rattle.mdb_base.specs.declared.replies.Reply.{Reply}
 use Rattle.mdb_base.specs.Names.{same_site}
 use Rattle.mdb_base.specs.Words.{Each, when, given, those}
+use Rattle.mdb_base.proofs.ForCallers.{never}
 use Rattle.order_laws.specs.Chains.{In}
 use Rattle.order_laws.proofs.ForCallers.{bool_is}
 use Rattle.presumptions.specs.declared.Decision.{Decision}
@@ -46,9 +47,6 @@ closed_standing protocols past tid closed o = by_open (is_open past tid) (known_
     by_open true d e o = cc
     by_open false None e o = cc
     by_open false (Some decision) e o = cc
-
-never : {A : Type 0} (b : Bool) → b ≡ false → b ≡ true → A
-never b no_so so = let clash : true ≡ false = sym so ∙ no_so in cc
 
 sends_when : (b : Bool) (x y : CoordHappening) → (b ≡ true → AreDecisions x.sends) → (b ≡ false → AreDecisions y.sends) → AreDecisions (when b x y).sends
 unfolding when

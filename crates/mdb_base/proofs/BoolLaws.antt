@@ -1,5 +1,5 @@
 -- Laws of tests and of their joins.
-use Rattle.std.proofs.Common.{◌≡◌, Bool, true, false, ◌&&◌, refl, ◌||◌, IsTrue, cond, not, sym}
+use Rattle.std.proofs.Common.{◌≡◌, Bool, true, false, ◌&&◌, refl, ◌||◌, IsTrue, cond, not, sym, ◌∙◌}
 use Rattle.mdb_base.specs.Words.{when}
 
 pub and_false : (b : Bool) → (b && false) ≡ false
@@ -57,3 +57,7 @@ and_fails false b e = refl
 pub or_fails : (a b : Bool) → (a || b) ≡ false → (a ≡ false) × (b ≡ false)
 or_fails true b e = cc
 or_fails false b e = (refl, e)
+
+-- a test has one answer
+pub never : {A : Type 0} (b : Bool) → b ≡ false → b ≡ true → A
+never b no_so so = let clash : true ≡ false = sym so ∙ no_so in cc

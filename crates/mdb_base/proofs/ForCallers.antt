@@ -1,5 +1,5 @@
 -- What callers cite of small words, names, rows, programs and lists.
-pub use Rattle.mdb_base.proofs.BoolLaws.{and_fails, and_false, and_true, cond_same, is_true_both, is_true_parts, not_both, not_true, or_fails, or_false, or_swap, or_swapped, or_true, when_either}
+pub use Rattle.mdb_base.proofs.BoolLaws.{and_fails, and_false, and_true, cond_same, is_true_both, is_true_parts, never, not_both, not_true, or_fails, or_false, or_swap, or_swapped, or_true, when_either}
 pub use Rattle.mdb_base.proofs.EachLaws.{all_append, among_append, among_behind, among_inserted, among_split, each_at_place, each_by_place, each_get_or, each_item_at, each_of_found, each_of_mapped, each_pushed, each_recursion, each_take}
 pub use Rattle.mdb_base.proofs.JoinLaws.{all_push, append_nil, found_append, length-append, length-map, length-option, nothing_left, reverse_more, some_steps, two_pieces}
 pub use Rattle.mdb_base.proofs.ListLaws.{among_map, among_some, append_each, append_none, each_all, each_among, each_append, each_filtered, each_found, each_inserted, each_map, each_of_map, each_self, each_those, empty_means, greatest_among, greatest_greatest, greatest_none, least_among, least_least, least_none, map_among, none_some_of, some_among, those_all, those_each, those_inserted, those_none, those_nothing, those_pass}

@@ -5,7 +5,7 @@ use Rattle.mdb_base.specs.declared.names.Tid.{Tid}
 use Rattle.mdb_base.specs.declared.replies.Reply.{Reply}
 use Rattle.mdb_base.specs.Names.{same_tid}
 use Rattle.mdb_base.specs.Words.{Among, or_else, those, when, given}
-use Rattle.mdb_base.proofs.ForCallers.{same_tid-equal}
+use Rattle.mdb_base.proofs.ForCallers.{never, same_tid-equal}
 use Rattle.presumptions.specs.declared.Decision.{Decision}
 use Rattle.presumptions.specs.declared.Participant.{Participant}
 use Rattle.fed_rules.specs.declared.answers.Answer.TheVariants as Say
@@ -169,9 +169,6 @@ module _ (protocols : List Participant) (rise : RiseBySite protocols) (found : L
   unfolding given
   goes_given None none some p q = p
   goes_given (Some v) none some p q = q v
-
-  never : {A : Type 0} (b : Bool) → b ≡ false → b ≡ true → A
-  never b no_so so = let clash : true ≡ false = sym so ∙ no_so in cc
 
   did_goes : (site : SiteId) (tid : Tid) (epoch n : ℕ) (reply : Reply) → Goes (of_did protocols policy past site tid epoch n reply).calls
   unfolding of_did

@@ -1,6 +1,6 @@
 -- Journals that are short enough.
-use Rattle.std.proofs.Common.{◌≡◌, ◌≤◌, ◌^◌, ◌&&◌, ℕ, zero, suc, nat_le, Bool, true, false, List, [], ◌∷◌, length, map, None, arith, refl, sym, ◌∙◌, ap, subst}
-use Rattle.std.proofs.lemmas.Bool.{leb-true}
+use Rattle.std.proofs.Common.{◌≡◌, ◌≤◌, ◌^◌, ◌&&◌, ℕ, zero, suc, nat_le, Bool, true, List, [], ◌∷◌, length, map, None, arith, refl, sym, ◌∙◌, ap, subst}
+use Rattle.std.proofs.lemmas.Bool.{and_parts, leb-true}
 use Rattle.mdb_base.specs.Words.{each_of}
 use Rattle.journal_disk.specs.Disk.{Image, Seen}
 use Rattle.fed_rules.specs.Resumed.{going_on}
@@ -16,21 +16,16 @@ pub each_small : {D : Type 0} (see : D → Seen) (items : List D) → are_small 
 each_small see [] = refl
 each_small see (item ∷ items) = ap (λ b. nat_le (see item).size (2 ^ 26) && b) (each_small see items)
 
-both : (a b : Bool) → (a && b) ≡ true → (a ≡ true) × (b ≡ true)
-both true true e = (refl, refl)
-both true false e = cc
-both false b e = cc
-
 -- so the bytes that they tell are few
 pub are_short : {D : Type 0} (see : D → Seen) → ((one : D) → length (see one).image.bytes ≡ (see one).size) → (items : List D) → are_small (map see items) ≡ true
     → AreShort (2 ^ 26) (images_of (map see items))
 are_short see told [] small place image at = absurd cc
 are_short see told (one ∷ items) small zero image at =
     let same : (see one).image ≡ image = cc in
-    let few = leb-true (see one).size (2 ^ 26) (both (nat_le (see one).size (2 ^ 26)) (are_small (map see items)) small).0 in
+    let few = leb-true (see one).size (2 ^ 26) (and_parts (nat_le (see one).size (2 ^ 26)) (are_small (map see items)) small).0 in
     subst (λ (i : Image). length i.bytes ≤ 2 ^ 26) same (subst (λ (n : ℕ). n ≤ 2 ^ 26) (sym (told one)) few)
 are_short see told (one ∷ items) small (suc place) image at =
-    are_short see told items (both (nat_le (see one).size (2 ^ 26)) (are_small (map see items)) small).1 place image at
+    are_short see told items (and_parts (nat_le (see one).size (2 ^ 26)) (are_small (map see items)) small).1 place image at
 
 -- so a session that goes on from them may be closed
 pub may_close : {D : Type 0} → FoundSessionsBeginShortly → (see : D → Seen) → ((one : D) → length (see one).image.bytes ≡ (see one).size) → (items handed : List D) (small : Bool)

@@ -2,6 +2,7 @@
 use Rattle.std.proofs.Common.{ℕ, zero, suc, ◌≡◌, ◌<◌, ◌≤◌, ◌⊎◌, ◌↔◌, get_or, Bool, true, false, cond, List, [], ◌∷◌, length, map, refl, sym, ap, ◌∙◌, subst, inl, inr, arith}
 use Rattle.mdb_base.specs.declared.names.SiteTicket.{SiteTicket}
 use Rattle.mdb_base.specs.Words.{Each, those}
+use Rattle.mdb_base.proofs.ForCallers.{length_those}
 use Rattle.order_laws.specs.Chains.{In, Chain, Acyclic, Within}
 use Rattle.order_laws.specs.Search.{Linked}
 use Rattle.order_laws.specs.Tickets.{Ticketed, HasNoCycle, OneEach, edge_between}
@@ -80,18 +81,10 @@ one_of_those test (n ∷ ns) one = by_test (test n) (one_of_those test ns one.1)
     by_test true rest = (λ i. one.0 (tids_more (those test ns) ns (λ a j. (those_in test a ns j).0) n.tid i), rest)
     by_test false rest = rest
 
-those_fewer : {A : Type 0} (test : A → Bool) (xs : List A) → length (those test xs) ≤ length xs
-those_fewer test [] = omega arith
-those_fewer test (x ∷ xs) = by_test (test x) (those_fewer test xs)
-  where
-    by_test : (b : Bool) → length (those test xs) ≤ length xs → length (cond b (x ∷ those test xs) (those test xs)) ≤ length (x ∷ xs)
-    by_test true h = omega arith
-    by_test false h = omega arith
-
 -- where none was left out, each passes the test
 those_whole : {A : Type 0} (test : A → Bool) (xs : List A) → length (those test xs) ≡ length xs → Each (λ x. test x ≡ true) xs
 those_whole test [] e = tt
-those_whole test (x ∷ xs) e = by_test (test x) refl e (those_whole test xs) (those_fewer test xs)
+those_whole test (x ∷ xs) e = by_test (test x) refl e (those_whole test xs) (length_those test xs)
   where
     by_test : (b : Bool) → test x ≡ b → length (cond b (x ∷ those test xs) (those test xs)) ≡ length (x ∷ xs)
         → (length (those test xs) ≡ length xs → Each (λ y. test y ≡ true) xs) → length (those test xs) ≤ length xs → Each (λ y. test y ≡ true) (x ∷ xs)
@@ -118,7 +111,7 @@ left_next all left next l e =
     })
 
 pub fewer_left : (left next : List Ticketed) → next ≡ entered left → length next ≤ length left
-fewer_left left next e = subst (λ (xs : List Ticketed). length xs ≤ length left) (sym e) (those_fewer (is_entered left) left)
+fewer_left left next e = subst (λ (xs : List Ticketed). length xs ≤ length left) (sym e) (length_those (is_entered left) left)
 
 -- where none is left there is no cycle
 pub none_left : (all left : List Ticketed) → IsLeft all left → length left ≡ 0 → (true ≡ true) ↔ HasNoCycle all

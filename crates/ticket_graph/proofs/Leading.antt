@@ -1,12 +1,12 @@
 -- Tickets from which an edge leads on, and those from which none does.
-use Rattle.std.proofs.Common.{◌≡◌, ◌+◌, ◌<◌, ℕ, suc, Bool, true, false, cond, ◌||◌, Option, Some, is_some, List, [], ◌∷◌, length, drop, get_or, refl, sym, ap, ◌∙◌, arith}
+use Rattle.std.proofs.Common.{◌≡◌, ◌+◌, ◌<◌, ℕ, suc, Bool, true, false, cond, ◌||◌, Some, is_some, List, [], ◌∷◌, length, drop, get_or, refl, sym, ap, ◌∙◌, arith}
 use Rattle.std.proofs.Math.Seq.{drop-cons}
 use Rattle.std.specs.BTreeSet.{BTreeSet, contains}
 use Rattle.mdb_base.specs.declared.names.SiteId.{SiteId}
 use Rattle.mdb_base.specs.declared.names.SiteTicket.{SiteTicket}
 use Rattle.mdb_base.specs.declared.names.Tid.{Tid}
 use Rattle.mdb_base.specs.Words.{some_of, first_where, map_some}
-use Rattle.mdb_base.proofs.ForCallers.{among_some}
+use Rattle.mdb_base.proofs.ForCallers.{among_some, or_fails, tests_agree}
 use Rattle.order_laws.specs.Chains.{In}
 use Rattle.mdb_base.specs.Names.{tid_cmp}
 use Rattle.order_laws.specs.Tickets.{Ticketed, Precedes, is_above}
@@ -20,11 +20,6 @@ use Rattle.ticket_graph.proofs.Reaching.{before_has, has_before, precedes_before
 abbrev pub leads_to : List SiteTicket → Ticketed → Bool
 leads_to tickets attempt = are_before tickets attempt.tickets
 
-alike : (a b : Bool) → (a ≡ true → b ≡ true) → (b ≡ true → a ≡ true) → a ≡ b
-alike true b there back = sym (there refl)
-alike false true there back = back refl
-alike false false there back = refl
-
 -- a test holds of some item where there is a first one
 first_there : {A B : Type 0} (f : A → B) (test : A → Bool) (xs : List A) → is_some (map_some f (first_where test xs)) ≡ some_of test xs
 first_there f test [] = refl
@@ -36,7 +31,7 @@ first_there f test (x ∷ xs) = by_test (test x) (first_there f test xs)
 
 -- there is a first site with an edge where one of the tickets is a smaller one
 pub site_before : (own other : List SiteTicket) → is_some (first_site own other) ≡ are_before own other
-site_before own other = first_there (λ k. k.site) (λ k. some_of (is_above k) other) own ∙ alike _ _ there back
+site_before own other = first_there (λ k. k.site) (λ k. some_of (is_above k) other) own ∙ tests_agree _ _ there back
   where
     there : some_of (λ k. some_of (is_above k) other) own ≡ true → are_before own other ≡ true
     there h =
@@ -83,18 +78,14 @@ closed_at_once g ns reached none empty = record {
   never_back = λ a s i h p. let no = empty a.tid in absurd cc;
 }
 
-or_neither : (a b : Bool) → (a || b) ≡ false → (a ≡ false) × (b ≡ false)
-or_neither true b e = cc
-or_neither false b e = (refl, e)
-
 pub none_reached : (met : List SiteTicket) (ns : List Ticketed) → some_of (leads_to met) ns ≡ false → reached met ns ≡ []
 none_reached met [] none = refl
 none_reached met (a ∷ ns) none =
-    let parts = or_neither (leads_to met a) (some_of (leads_to met) ns) none in
+    let parts = or_fails (leads_to met a) (some_of (leads_to met) ns) none in
     rw parts.0 (none_reached met ns parts.1)
 
 pub all_unreached : (met : List SiteTicket) (ns : List Ticketed) → some_of (leads_to met) ns ≡ false → unreached met ns ≡ ns
 all_unreached met [] none = refl
 all_unreached met (a ∷ ns) none =
-    let parts = or_neither (leads_to met a) (some_of (leads_to met) ns) none in
+    let parts = or_fails (leads_to met a) (some_of (leads_to met) ns) none in
     rw parts.0 (ap (λ (rest : List Ticketed). a ∷ rest) (all_unreached met ns parts.1))

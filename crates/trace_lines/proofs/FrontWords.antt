@@ -1,18 +1,14 @@
 -- The words that all bytes of a text are, one after another.
 use Rattle.std.proofs.Common.{◌≡◌, ℕ, ◌<◌, IsTrue, List, [], ◌∷◌, ◌++◌, map, length, length-append, append-nil, refl, sym, ap, ◌∙◌, arith}
-use Rattle.std.proofs.lemmas.Grind.{flat_map-append}
 use Rattle.std.proofs.lemmas.List.{append_assoc}
 use Rattle.line_text.specs.declared.word.Word.{Word}
 use Rattle.line_text.specs.Range.{is_word}
 use Rattle.line_text.specs.Words.{word_text}
 use Rattle.line_text.specs.Spelling.{spaced, words_bytes}
+use Rattle.line_text.proofs.ForCallers.{spaced_both}
 use Rattle.trace_lines.specs.Lexing.{pieces}
 use Rattle.trace_lines.proofs.Pieces.{AreWords, words_push}
 use Rattle.trace_lines.proofs.Visible.{pieces_again}
-
--- words behind others, each behind a space
-pub spaced_both : (xs ys : List Word) → spaced (xs ++ ys) ≡ spaced xs ++ spaced ys
-spaced_both xs ys = flat_map-append (λ (word : Word). 32 ∷ word_text word) xs ys
 
 -- each word behind a space is the words with one space between each two, behind a space
 pub spaced_words : (word : Word) (words : List Word) → spaced (word ∷ words) ≡ 32 ∷ words_bytes (word ∷ words)

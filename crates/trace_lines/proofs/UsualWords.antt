@@ -15,13 +15,13 @@ use Rattle.line_text.specs.Fits.{line_fits}
 use Rattle.line_text.specs.Range.{is_place}
 use Rattle.line_text.specs.Words.{word_text}
 use Rattle.line_text.specs.Spelling.{answer_words, command_words, line_words, place_word, sends_words, spaced, words_bytes}
-use Rattle.line_text.proofs.ForCallers.{line_parts}
+use Rattle.line_text.proofs.ForCallers.{line_parts, spaced_both}
 use Rattle.trace_lines.specs.Reading.{answer_of, command_of}
 use Rattle.trace_lines.specs.Usual.{Asks, IsText, Says, Sends}
 use Rattle.trace_lines.proofs.Pieces.{AreWords}
 use Rattle.trace_lines.proofs.Answered.{answer_found}
 use Rattle.trace_lines.proofs.CommandLaws.{command_found}
-use Rattle.trace_lines.proofs.FrontWords.{spaced_both, spaced_words, word_more}
+use Rattle.trace_lines.proofs.FrontWords.{spaced_words, word_more}
 
 -- a word before others
 pub word_before : (word : Word) (words : List Word) (text rest : List ℕ) → text ≡ spaced words ++ rest → 32 ∷ (word_text word ++ text) ≡ spaced (word ∷ words) ++ rest

@@ -1,5 +1,6 @@
 -- The committed attempts of records.
-use Rattle.std.proofs.Common.{ℕ, ◌+◌, ◌-◌, ◌<◌, ◌≤◌, ◌≡◌, Bool, true, false, not, ◌&&◌, ◌||◌, List, [], ◌∷◌, ◌++◌, length, take, drop, map, reverse, get_or, refl, sym, ap, subst, ◌∙◌, inl, inr, arith}
+use Rattle.std.proofs.Common.{ℕ, ◌+◌, ◌-◌, ◌<◌, ◌≤◌, ◌≡◌, Bool, true, false, not, ◌||◌, List, [], ◌∷◌, ◌++◌, length, take, drop, map, reverse, get_or, refl, sym, ap, ◌∙◌, inl, inr, arith}
+use Rattle.std.proofs.lemmas.Bool.{and_parts}
 use Rattle.std.proofs.lemmas.List.{append_assoc, append-nil, drop_all, reverse-append, take_more}
 use Rattle.mdb_base.specs.declared.names.SiteTicket.{SiteTicket}
 use Rattle.mdb_base.specs.declared.names.Tid.{Tid}
@@ -44,10 +45,6 @@ commit_decided (Initiation begun participants ∷ records) tid i = commit_decide
 commit_decided (Abort decided participants ∷ records) tid i = or_second (same_tid decided tid) (some_of (is_decided_of tid) records) (commit_decided records tid i)
 commit_decided (End ended ∷ records) tid i = or_second (same_tid ended tid) (some_of (is_decided_of tid) records) (commit_decided records tid i)
 commit_decided (Checkpoint sum ∷ records) tid i = commit_decided records tid i
-
-pub and_parts : (a b : Bool) → (a && b) ≡ true → (a ≡ true) × (b ≡ true)
-and_parts true b e = (refl, e)
-and_parts false b e = absurd cc
 
 not_both : (b : Bool) → not b ≡ true → b ≡ true → ⊥
 not_both true e f = absurd cc

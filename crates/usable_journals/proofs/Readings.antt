@@ -1,5 +1,6 @@
 -- What was read of the coordinator's records, with more records.
 use Rattle.std.proofs.Common.{ℕ, ◌-◌, ◌≤◌, ◌≡◌, Bool, true, false, not, cond, is_some, ◌&&◌, ◌||◌, Option, Some, None, List, [], ◌∷◌, ◌++◌, length, drop, map, get_or, refl, sym, ap, ap₂, subst, ◌∙◌, arith}
+use Rattle.std.proofs.lemmas.Bool.{and_parts}
 use Rattle.std.proofs.lemmas.List.{append_assoc}
 use Rattle.std.specs.BTreeMap.{BTreeMap, get}
 use Rattle.std.specs.BTreeSet.{BTreeSet, contains}
@@ -8,7 +9,7 @@ use Rattle.mdb_base.specs.declared.names.SiteTicket.{SiteTicket}
 use Rattle.mdb_base.specs.declared.names.Tid.{Tid}
 use Rattle.mdb_base.specs.Names.{same_tid, tid_before, tid_cmp}
 use Rattle.mdb_base.specs.Words.{Each, inserted, some_of, those}
-use Rattle.mdb_base.proofs.ForCallers.{each_filtered, each_inserted, each_map, same_tid-equal, tid_ties}
+use Rattle.mdb_base.proofs.ForCallers.{each_filtered, each_inserted, each_map, or_fails, same_tid-equal, tid_ties}
 use Rattle.order_laws.proofs.ForCallers.{ranks_tids}
 use Rattle.presumptions.specs.declared.Participant.{Participant}
 use Rattle.fed_rules.specs.declared.records.CoordRecord.{CoordRecord}
@@ -23,7 +24,7 @@ use Rattle.usable_journals.specs.declared.coord_sums.Reading.{Reading}
 use Rattle.usable_journals.specs.CoordTests.{in_order, is_decided_of, may_stand}
 use Rattle.usable_journals.specs.Reads.{Reads, Says, begun, ended, ends_of, forgotten, open_in, tickets_in}
 use Rattle.fed_rules.specs.Reopened.{commit_read, coord_sum_read, initiation_read}
-use Rattle.usable_journals.proofs.Committing.{and_parts, stays_true}
+use Rattle.usable_journals.proofs.Committing.{stays_true}
 use Rattle.usable_journals.proofs.Recording.{drop_one, end_at, ends_of as ends_in, ends_one, sum_reads}
 use Rattle.usable_journals.proofs.Words.{or_second}
 
@@ -99,20 +100,16 @@ is_open_some (x ∷ xs) tid = by_test (same_tid x.tid tid) (is_open_some xs tid)
 both_tids : (a b q : Tid) → same_tid a q ≡ true → same_tid b q ≡ true → same_tid a b ≡ true
 both_tids a b q e f = grind arith
 
-or_none : (a b : Bool) → (a || b) ≡ false → (a ≡ false) × (b ≡ false)
-or_none true b e = absurd cc
-or_none false b e = (refl, e)
-
 open_inserted : (x : OpenAttempt) (ys : List OpenAttempt) (q : Tid) → some_of (λ (a : OpenAttempt). same_tid a.tid x.tid) ys ≡ false →
     open_in (inserted (λ (a b : OpenAttempt). tid_before a.tid b.tid) x ys) q ≡ cond (same_tid x.tid q) (Some x.participants) (open_in ys q)
 open_inserted x [] q none = refl
-open_inserted x (y ∷ ys) q none = by_tests (tid_before y.tid x.tid) (same_tid y.tid q) refl (same_tid x.tid q) refl (open_inserted x ys q (or_none (same_tid y.tid x.tid) _ none).1)
+open_inserted x (y ∷ ys) q none = by_tests (tid_before y.tid x.tid) (same_tid y.tid q) refl (same_tid x.tid q) refl (open_inserted x ys q (or_fails (same_tid y.tid x.tid) _ none).1)
   where
     by_tests : (b c : Bool) → same_tid y.tid q ≡ c → (d : Bool) → same_tid x.tid q ≡ d →
         open_in (inserted (λ (a b : OpenAttempt). tid_before a.tid b.tid) x ys) q ≡ cond (same_tid x.tid q) (Some x.participants) (open_in ys q) →
         open_in (cond b (y ∷ inserted (λ (a b : OpenAttempt). tid_before a.tid b.tid) x ys) (x ∷ y ∷ ys)) q ≡ cond d (Some x.participants) (cond c (Some y.participants) (open_in ys q))
     by_tests true true is true there rest =
-        let clash = both_tids y.tid x.tid q is there in let apart = (or_none (same_tid y.tid x.tid) _ none).0 in absurd cc
+        let clash = both_tids y.tid x.tid q is there in let apart = (or_fails (same_tid y.tid x.tid) _ none).0 in absurd cc
     by_tests true true is false there rest = ap (λ t. cond t (Some y.participants) (open_in (inserted (λ (a b : OpenAttempt). tid_before a.tid b.tid) x ys) q)) is
     by_tests true false is d there rest =
         ap (λ t. cond t (Some y.participants) (open_in (inserted (λ (a b : OpenAttempt). tid_before a.tid b.tid) x ys) q)) is ∙ rest ∙ ap (λ t. cond t (Some x.participants) (open_in ys q)) there
@@ -283,13 +280,13 @@ committed_rise (Checkpoint sum ∷ rs) stands = committed_rise rs stands
 tickets_inserted : (x : CommittedAttempt) (ys : List CommittedAttempt) (q : Tid) → some_of (λ (a : CommittedAttempt). same_tid a.tid x.tid) ys ≡ false →
     tickets_in (inserted (λ (a b : CommittedAttempt). tid_before a.tid b.tid) x ys) q ≡ cond (same_tid x.tid q) (Some x.tickets) (tickets_in ys q)
 tickets_inserted x [] q none = refl
-tickets_inserted x (y ∷ ys) q none = by_tests (tid_before y.tid x.tid) (same_tid y.tid q) refl (same_tid x.tid q) refl (tickets_inserted x ys q (or_none (same_tid y.tid x.tid) _ none).1)
+tickets_inserted x (y ∷ ys) q none = by_tests (tid_before y.tid x.tid) (same_tid y.tid q) refl (same_tid x.tid q) refl (tickets_inserted x ys q (or_fails (same_tid y.tid x.tid) _ none).1)
   where
     by_tests : (b c : Bool) → same_tid y.tid q ≡ c → (d : Bool) → same_tid x.tid q ≡ d →
         tickets_in (inserted (λ (a b : CommittedAttempt). tid_before a.tid b.tid) x ys) q ≡ cond (same_tid x.tid q) (Some x.tickets) (tickets_in ys q) →
         tickets_in (cond b (y ∷ inserted (λ (a b : CommittedAttempt). tid_before a.tid b.tid) x ys) (x ∷ y ∷ ys)) q ≡ cond d (Some x.tickets) (cond c (Some y.tickets) (tickets_in ys q))
     by_tests true true is true there rest =
-        let clash = both_tids y.tid x.tid q is there in let apart = (or_none (same_tid y.tid x.tid) _ none).0 in absurd cc
+        let clash = both_tids y.tid x.tid q is there in let apart = (or_fails (same_tid y.tid x.tid) _ none).0 in absurd cc
     by_tests true true is false there rest = ap (λ t. cond t (Some y.tickets) (tickets_in (inserted (λ (a b : CommittedAttempt). tid_before a.tid b.tid) x ys) q)) is
     by_tests true false is d there rest =
         ap (λ t. cond t (Some y.tickets) (tickets_in (inserted (λ (a b : CommittedAttempt). tid_before a.tid b.tid) x ys) q)) is ∙ rest ∙ ap (λ t. cond t (Some x.tickets) (tickets_in ys q)) there
