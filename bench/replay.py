@@ -1,11 +1,13 @@
 #!/usr/bin/env python3
 """Measures the built program at a quarter, half and the whole of its limits. It is no part of the gate.
 
-usage: bench/replay.py [--instructions] [PROGRAM]
+usage: bench/replay.py [--instructions | --plain] [PROGRAM]
 
 PROGRAM is the built `mdbfed`, by default the one that `rt run` leaves in crates/mdbfed/out. Each input is made here, the same at each
 run. Each is timed, the best of three runs, with what one byte of input costs; with --instructions they are counted in place of timed, by
-valgrind's callgrind, which gives the same number at each run. There are four kinds:
+valgrind's callgrind, which gives the same number at each run. With --plain the inputs of bench/plain.txt are counted in place of these,
+beside what a program without proofs takes for the same work, and with how much a larger input takes of a smaller one. Of the inputs that
+are made here there are four kinds:
 
   examples   the files of examples/
   read       a text of every kind of line at its limits (8 sites of 4,096 items, 1,024 transactions of 32 steps, 4,096 link lines,
@@ -75,10 +77,10 @@ def contended_input(engine, part):
     return ("\n".join(lines) + "\n").encode()
 
 
-def instructions(program, text, want):
-    """How many instructions one run takes."""
+def instructions(program, words, text, want):
+    """How many instructions one run with these words takes."""
     ran = subprocess.run(
-        ["valgrind", "--tool=callgrind", "--callgrind-out-file=/dev/null", program, "replay"],
+        ["valgrind", "--tool=callgrind", "--callgrind-out-file=/dev/null", program, *words],
         input=text, stdout=subprocess.PIPE, stderr=subprocess.PIPE, timeout=3600, check=False,
     )
     if ran.returncode != want:
@@ -111,17 +113,50 @@ def inputs():
             yield engine, label, contended_input(engine, part), 0
 
 
+def plain_rows():
+    """The rows of bench/plain.txt: an input, the instructions of the plain program, and the smaller input that it is compared with, or none."""
+    for line in (TOP / "bench/plain.txt").read_text().splitlines():
+        if line and not line.startswith("#"):
+            name, taken, *smaller = re.split(r"\s{2,}", line)
+            yield name, int(taken), smaller[0] if smaller else None
+
+
+def plain_input(name):
+    """The words and the input of a row."""
+    if name.startswith("session"):
+        return ["replay"], (TOP / "bench/sessions" / name).read_bytes()
+    if name.startswith("contended"):
+        return ["replay"], contended_input("locking", {"1/4": 0.25, "whole": 1.0}[name.split()[1]])
+    return name.split(), b""
+
+
+def beside_plain(program):
+    """Prints each row, and behind a larger input how much it takes of the smaller one."""
+    taken, plain = {}, {}
+    for name, figure, smaller in plain_rows():
+        words, text = plain_input(name)
+        plain[name], taken[name] = figure, instructions(program, words, text, 0)
+        print(f"{name:20} {taken[name]:14,} instructions, plain {figure:14,}: {taken[name] / figure:.2f} times", flush=True)
+        if smaller:
+            print(f"{'':20} {taken[name] / taken[smaller]:.2f} times {smaller}, plain {figure / plain[smaller]:.2f}", flush=True)
+
+
 def main():
     words = sys.argv[1:]
     counted = "--instructions" in words
-    words = [word for word in words if word != "--instructions"]
+    beside = "--plain" in words
+    words = [word for word in words if word not in ("--instructions", "--plain")]
     program = pathlib.Path(words[0]) if words else TOP / "crates/mdbfed/out/mdbfed"
     if not program.exists():
         sys.exit(f"no program at {program}: build it with `rt run` in crates/mdbfed, or name it")
+    if beside:
+        beside_plain(str(program))
+        return
     for kind, label, text, want in inputs():
         head = f"{kind:13} {label:24} {len(text):9} bytes"
         if counted:
-            print(f"{head}  {instructions(str(program), text, want):14,} instructions", flush=True)
+            taken = instructions(str(program), ["replay"], text, want)
+            print(f"{head}  {taken:14,} instructions", flush=True)
         else:
             taken = best(str(program), text, want)
             print(f"{head}  {taken * 1000:9.1f} ms  {taken / len(text) * 1e9:9.1f} ns a byte", flush=True)
