@@ -11,10 +11,10 @@ use std::sync::atomic::{AtomicU64, Ordering};
 use std::thread;
 
 /// How often a client yields while its host makes no move, before it looks whether the host rests.
-const PATIENCE: u32 = 1_024;
+const PATIENCE: u32 = 256;
 
 /// How often a client finds at most that its host doesn't rest, before it calls again.
-const WATCHED: u32 = 64;
+const WATCHED: u32 = 256;
 
 /// How often a client that stands back yields at most, before it begins beside the attempts that are under way.
 const STANDS_BACK: u32 = 65_536;

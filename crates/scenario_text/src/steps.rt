@@ -14,6 +14,9 @@ use crate::usual_steps::read_usual;
 use mdb_base::{Act, SiteId, Step};
 use std::alloc::Global;
 
+/// How many bytes a step and its space are likely to have. Room is taken for so many steps beforehand.
+const LIKELY_BYTES: usize = 8;
+
 /// What stands behind `get:`.
 #[tactic(auto, unfolding(crate::specs::Steps::get_of))]
 fn get_of(rest: &[u8]) -> Result<Act, BadWhy>
@@ -105,7 +108,7 @@ pub fn steps_of(
 ) -> Result<Steps, Fault>
     ensures { Gives (λ s. s) result (steps.steps_of sites.now home (pieces space words.now)) }
 {
-    let mut steps = Vec::new(alloc);
+    let mut steps = Vec::with_capacity(alloc, words.len() / LIKELY_BYTES + 1)?;
     let mut rest = read_usual(&mut steps, sites, home, words)?;
     while let Some((word, more)) = cut(rest, b' ') {
         steps.push(step_of(sites, home, word)?)?;

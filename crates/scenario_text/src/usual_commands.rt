@@ -25,6 +25,7 @@ fn tx_line(text: &[u8]) -> Option<(Tx, &[u8])>
 }
 
 /// The declared site and the message that a text has up to its line feed, and the text behind that.
+#[inline(always)]
 #[tactic(auto, using(crate::proofs::UsualLemmas::says_message))]
 fn message_line<'a>(sites: &SiteDraft, text: &'a [u8]) -> Option<(SiteId, u32, &'a [u8])>
     ensures { IfSome result (λ p. Says (message_said sites.now) 11 (p.0, p.1) text.now p.2.now) }

@@ -8,7 +8,7 @@ use Rattle.scenario_text.proofs.steps.steps_of.Goals as goal
 pub loop-word-init : goal.loop-word-init
 loop-word-init c =
     let words = steps_of c.args.sites.now c.args.home (pieces space c.args.words.now) in
-    c.in_ok-rest.ensures ∙ ap (λ front. behind front words) c.new-steps.ensures.items ∙ behind_none words
+    c.in_ok-rest.ensures ∙ ap (λ front. behind front words) c.in_ok-steps.ensures.items ∙ behind_none words
 
 pub returns-in_err-step_of : goal.returns-in_err-step_of
 returns-in_err-step_of c =
