@@ -202,32 +202,47 @@ fn commands_in_their_order(rt: HostRuntime) -> Result<(), Fail> {
     let session = read_commands(rt.alloc(), text)
         .ok()
         .ok_or("the commands are read")?;
+    let commands = session.commands.as_slice();
+    assert_eq!(rt; commands.len(), 5);
+    assert!(rt; matches!(commands.get(0), Some(Command::Go(Tx(1)))));
     assert!(rt;
         matches!(
-            session.commands.as_slice(),
-            [
-                Command::Go(Tx(1)),
-                Command::Late(Tid {
-                    tx: Tx(1),
-                    attempt: 31
-                }),
-                Command::Take {
-                    site: SiteId(3),
-                    place: 7
-                },
-                Command::Ask {
-                    site: SiteId(3),
-                    tid: Tid {
-                        tx: Tx(2),
-                        attempt: 0
-                    }
-                },
-                Command::Trip {
-                    actor: 3,
-                    calls: 1,
-                    cut: 2
-                },
-            ]
+            commands.get(1),
+            Some(Command::Late(Tid {
+                tx: Tx(1),
+                attempt: 31
+            }))
+        )
+    );
+    assert!(rt;
+        matches!(
+            commands.get(2),
+            Some(Command::Take {
+                site: SiteId(3),
+                place: 7
+            })
+        )
+    );
+    assert!(rt;
+        matches!(
+            commands.get(3),
+            Some(Command::Ask {
+                site: SiteId(3),
+                tid: Tid {
+                    tx: Tx(2),
+                    attempt: 0
+                }
+            })
+        )
+    );
+    assert!(rt;
+        matches!(
+            commands.get(4),
+            Some(Command::Trip {
+                actor: 3,
+                calls: 1,
+                cut: 2
+            })
         )
     );
     Ok(())
