@@ -25,6 +25,7 @@ import time
 TOP = pathlib.Path(__file__).resolve().parent.parent
 LIMIT = 4_194_304
 ENGINES = ("locking", "timestamp", "validation", "multiversion")
+PARTS = {"1/4": 0.25, "1/2": 0.5, "whole": 1.0}
 
 
 def read_input(part):
@@ -104,13 +105,13 @@ def inputs():
     """The kind, the part, the text and the status of each input."""
     for path in sorted((TOP / "examples").glob("*.fed")):
         yield "examples", path.name, path.read_bytes(), 0
-    for label, part in (("1/4", 0.25), ("1/2", 0.5), ("whole", 1.0)):
+    for label, part in PARTS.items():
         yield "read", label, read_input(part), 2
-    for label, part in (("1/4", 0.25), ("1/2", 0.5), ("whole", 1.0)):
+    for label, part in PARTS.items():
         yield "replay", label, replay_input(part), 0
     for engine in ENGINES:
-        for label, part in (("1/4", 0.25), ("whole", 1.0)):
-            yield engine, label, contended_input(engine, part), 0
+        for label in ("1/4", "whole"):
+            yield engine, label, contended_input(engine, PARTS[label]), 0
 
 
 def plain_rows():
@@ -126,7 +127,7 @@ def plain_input(name):
     if name.startswith("session"):
         return ["replay"], (TOP / "bench/sessions" / name).read_bytes()
     if name.startswith("contended"):
-        return ["replay"], contended_input("locking", {"1/4": 0.25, "whole": 1.0}[name.split()[1]])
+        return ["replay"], contended_input("locking", PARTS[name.split()[1]])
     return name.split(), b""
 
 
