@@ -1,6 +1,7 @@
 //! The journals in the files of a folder.
 ghost use Rattle.std.specs.Prelude.{◌≡◌, ◌≤◌, ◌^◌, false, [], IfOk, length};
-ghost use Rattle.mdb_base.specs.Counts.{HasCause};
+ghost use Rattle.mdb_base.specs.Counts.{HasCause, HasCauseOf};
+ghost use Rattle.file_disks.specs.Stores.{IsNotLarge};
 
 use crate::counting::counted;
 use crate::errors::OpenErr;
@@ -42,6 +43,20 @@ impl<'a, R: Files<File = File>> FileStore<'a, R> {
             next: format!(in self.alloc; "{folder}/disk{number}.next")?,
         })
     }
+
+    // The bytes of a journal, synced.
+    fn bytes_of(&mut self, file: &SystemFile<'a, R>) -> Result<Vec<u8>, OpenErr>
+        ensures not_large { IfOk result (λ bytes. IsNotLarge (length bytes.items)) }
+        ensures cause { HasCauseOf OpenErr.Failed self.old.faults self.new.faults result }
+    {
+        let size = counted(&mut self.faults, file.size())?;
+        if size > LONGEST_JOURNAL {
+            return Err(OpenErr::Large);
+        }
+        let mut bytes = vec![in self.alloc; 0; size as usize]?;
+        counted(&mut self.faults, file.read(&mut bytes))?;
+        Ok(bytes)
+    }
 }
 
 impl<'a, R: Files<File = File>> Store<FileDisk<SystemFile<'a, R>>> for FileStore<'a, R> {
@@ -54,12 +69,9 @@ impl<'a, R: Files<File = File>> Store<FileDisk<SystemFile<'a, R>>> for FileStore
     fn open_disk(&mut self, number: u8) -> Result<FileDisk<SystemFile<'a, R>>, OpenErr> {
         let names = self.names(number)?;
         let file = counted(&mut self.faults, SystemFile::open(self.rt, names))?;
-        let size = counted(&mut self.faults, file.size())?;
-        if size > LONGEST_JOURNAL {
-            return Err(OpenErr::Large);
+        match self.bytes_of(&file) {
+            Ok(bytes) => Ok(FileDisk::new(file, bytes)),
+            Err(why) => Err(why),
         }
-        let mut bytes = vec![in self.alloc; 0; size as usize]?;
-        counted(&mut self.faults, file.read(&mut bytes))?;
-        Ok(FileDisk::new(file, bytes))
     }
 }

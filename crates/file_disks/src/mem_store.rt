@@ -1,7 +1,7 @@
 //! A store in memory, some calls of which can be told to fail.
 ghost use Rattle.std.specs.Prelude.{◌≡◌, ◌≤◌, ◌<◌, ◌^◌, ◌↔◌, [], IsTrue, IsErrOf, IfOk, IfSome, IsSome, OnOk, Contains, length};
 ghost use Rattle.mdb_base.specs.Counts.{HasCauseOf};
-ghost use Rattle.journal_disk.specs.Disk.{synced_bytes};
+ghost use Rattle.journal_disk.specs.Disk.{no_bytes, synced_bytes};
 ghost use Rattle.journal_disk.specs.MemDisk.{mem_image, mem_failing, mem_faults};
 
 use crate::counting::is_listed;
@@ -38,6 +38,30 @@ impl MemStore {
     }
 }
 
+// Puts these bytes on an empty disk, on which no call fails, and syncs them.
+fn fill(alloc: Global, disk: &mut MemDisk, bytes: &[u8]) -> Result<(), Memory>
+    requires empty { mem_image disk.old ≡ no_bytes }
+    requires never_fails { mem_failing disk.old ≡ [] }
+    ensures { OnOk result (mem_image disk.new ≡ synced_bytes bytes.now) }
+{
+    disk.reserve(alloc, bytes.len() as u64)?;
+    match (disk.append(bytes), disk.sync()) {
+        (Ok(()), Ok(())) => Ok(()),
+        _ => unreachable!(),
+    }
+}
+
+// A disk with these bytes, all synced, on which no call fails.
+fn disk_of(alloc: Global, bytes: &[u8]) -> Result<MemDisk, Memory>
+    ensures { IfOk result (λ disk. mem_image disk ≡ synced_bytes bytes.now) }
+{
+    let mut disk = MemDisk::new(alloc)?;
+    match fill(alloc, &mut disk, bytes) {
+        Ok(()) => Ok(disk),
+        Err(Memory) => Err(Memory),
+    }
+}
+
 // A disk with the bytes of this one, all synced, on which no call fails. The answer is none where a call of this
 // one failed.
 fn copy_of(alloc: Global, disk: &mut MemDisk) -> Result<Option<MemDisk>, Memory>
@@ -46,14 +70,9 @@ fn copy_of(alloc: Global, disk: &mut MemDisk) -> Result<Option<MemDisk>, Memory>
     ensures same { mem_image disk.new ≡ mem_image disk.old }
 {
     let mut bytes = vec![in alloc; 0; disk.len() as usize]?;
-    let mut copy = MemDisk::new(alloc)?;
-    copy.reserve(alloc, disk.len())?;
-    if disk.read_at(0, &mut bytes).is_err() {
-        return Ok(None);
-    }
-    match (copy.append(&bytes), copy.sync()) {
-        (Ok(()), Ok(())) => Ok(Some(copy)),
-        _ => unreachable!(),
+    match disk.read_at(0, &mut bytes) {
+        Ok(()) => Ok(Some(disk_of(alloc, &bytes)?)),
+        Err(_) => Ok(None),
     }
 }
 

@@ -32,16 +32,7 @@ impl<'a, R: Files<File = File>> SystemFile<'a, R> {
     /// else, as of a link, a folder or a device, or where another handle has it open, of this process or of
     /// another.
     pub fn open(rt: &'a R, names: Names<'a>) -> io::Result<SystemFile<'a, R>> {
-        let file = above_streams(open_or_make(rt, names.journal.as_str())?)?;
-        file.try_lock()?;
-        // A trim by another process may have put a file in this one's place before the lock was had.
-        let (opened, named) = (
-            file.metadata()?,
-            fs::symlink_metadata(rt, names.journal.as_str())?,
-        );
-        if !named.is_file() || (opened.dev(), opened.ino()) != (named.dev(), named.ino()) {
-            return Err(ErrorKind::Unsupported.into());
-        }
+        let file = opened(rt, names.journal.as_str())?;
         Ok(SystemFile {
             rt,
             names,
@@ -72,11 +63,16 @@ impl<'a, R: Files<File = File>> SystemFile<'a, R> {
     fn next_with(&self, bytes: &[u8]) -> io::Result<File> {
         remove_if_there(self.rt, self.names.next.as_str())?;
         let file = above_streams(File::create_new(self.rt, self.names.next.as_str())?)?;
-        file.try_lock()?;
-        file.set_permissions(self.file.metadata()?.permissions())?;
-        file.write_all_at(bytes, 0)?;
-        file.sync_all()?;
+        self.fill(&file, bytes)?;
         Ok(file)
+    }
+
+    // Locks the next one, gives it the permissions of this one, and writes and syncs these bytes.
+    fn fill(&self, next: &File, bytes: &[u8]) -> io::Result<()> {
+        next.try_lock()?;
+        next.set_permissions(self.file.metadata()?.permissions())?;
+        next.write_all_at(bytes, 0)?;
+        next.sync_all()
     }
 
     // Gives the next one the journal's name: whoever opens that finds the file of before or the next one.
@@ -88,6 +84,31 @@ impl<'a, R: Files<File = File>> SystemFile<'a, R> {
         )?;
         self.sync_folder()
     }
+
+    // The file with these bytes that has taken the journal's name.
+    fn renewed(&self, bytes: &[u8]) -> io::Result<File> {
+        let next = self.next_with(bytes)?;
+        self.put_next()?;
+        Ok(next)
+    }
+}
+
+// The file of this name, made empty where there is none, and locked.
+fn opened<R: Files<File = File>>(rt: &R, name: &str) -> io::Result<File> {
+    let file = above_streams(open_or_make(rt, name)?)?;
+    lock(rt, &file, name)?;
+    Ok(file)
+}
+
+// Locks a file, which is still the one of this name then. A trim by another process may have put one in its place
+// before the lock was had.
+fn lock<R: Files<File = File>>(rt: &R, file: &File, name: &str) -> io::Result<()> {
+    file.try_lock()?;
+    let (opened, named) = (file.metadata()?, fs::symlink_metadata(rt, name)?);
+    if !named.is_file() || (opened.dev(), opened.ino()) != (named.dev(), named.ino()) {
+        return Err(ErrorKind::Unsupported.into());
+    }
+    Ok(())
 }
 
 // Opens the file of this name, or makes it. What isn't a file is let alone: a link isn't followed, and no device is
@@ -155,11 +176,8 @@ impl<'a, R: Files<File = File>> JournalFile for SystemFile<'a, R> {
 
     // The next file is written beside it, and then takes its name.
     fn replace(&mut self, bytes: &[u8]) -> Result<(), Failed> {
-        let made = self.next_with(bytes);
-        let next = counted(&mut self.faults, made)?;
-        let put = self.put_next();
-        counted(&mut self.faults, put)?;
-        self.file = next;
+        let made = self.renewed(bytes);
+        self.file = counted(&mut self.faults, made)?;
         Ok(())
     }
 }
