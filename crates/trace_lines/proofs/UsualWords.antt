@@ -1,5 +1,5 @@
 -- What words that stand at the front of a text say: a command, an answer, places, and a line.
-use Rattle.std.proofs.Common.{◌≡◌, ℕ, Bool, true, ◌==◌, IsTrue, List, [], ◌∷◌, ◌++◌, Some, map, codes, length, length-append, append-nil, refl, sym, ap, ◌∙◌, arith}
+use Rattle.std.proofs.Common.{◌≡◌, ℕ, Bool, true, ◌==◌, IsTrue, List, [], ◌∷◌, ◌++◌, Some, map, codes, length, append-nil, refl, sym, ap, ◌∙◌, arith}
 use Rattle.std.proofs.lemmas.Bool.{eqb-true}
 use Rattle.std.proofs.lemmas.List.{append_assoc, map-append}
 use Rattle.mdb_base.specs.Words.{each_of}

@@ -1,4 +1,4 @@
-use Rattle.std.proofs.Common.{sym, subst, get_or}
+use Rattle.std.proofs.Common.{subst}
 use Rattle.trace_lines.specs.Lexed.{Covers}
 use Rattle.trace_lines.proofs.FirstBytes.{found_in}
 use Rattle.trace_lines.proofs.keywords.keyword_of.Goals as goal
