@@ -99,7 +99,10 @@ fn draft_of(alloc: Global, with_commands: bool, text: &[u8]) -> Result<Draft, Te
     while !rest.is_empty() {
         match take_first(&mut draft, alloc, with_commands, rest) {
             Ok(more) => rest = more,
-            Err(fault) => return Err(at_line(number, fault)),
+            Err(fault) => {
+                drop(draft);
+                return Err(at_line(number, fault));
+            }
         }
         number += 1;
     }

@@ -153,6 +153,16 @@ fn stop_line(sites: &SiteDraft, line: &[u8]) -> Result<Entry, BadWhy>
     Ok(Entry::Stop(StopLine { actor, calls, cut }))
 }
 
+/// What was read, or the fault that the line has.
+fn or_fault(read: Result<Entry, BadWhy>) -> Result<Entry, Fault>
+    ensures { Gives (λ e. e) result read }
+{
+    match read {
+        Ok(entry) => Ok(entry),
+        Err(why) => Err(Fault::Bad(why)),
+    }
+}
+
 /// What a line of a scenario says, by its first word.
 #[tactic(auto, unfolding(crate::specs::ScenarioLines::scenario_line))]
 pub fn scenario_line(alloc: Global, sites: &SiteDraft, line: &[u8]) -> Result<Entry, Fault>
@@ -160,25 +170,25 @@ pub fn scenario_line(alloc: Global, sites: &SiteDraft, line: &[u8]) -> Result<En
 {
     let first = first_word(line);
     if first == b"site".as_slice() {
-        Ok(site_line(line)?)
+        or_fault(site_line(line))
     } else if first == b"item".as_slice() {
-        Ok(item_line(sites, line)?)
+        or_fault(item_line(sites, line))
     } else if first == b"local".as_slice() {
         local_line(alloc, sites, line)
     } else if first == b"global".as_slice() {
         global_line(alloc, sites, line)
     } else if first == b"clients".as_slice() {
-        Ok(clients_line(line)?)
+        or_fault(clients_line(line))
     } else if first == b"turns".as_slice() {
-        Ok(turns_line(line)?)
+        or_fault(turns_line(line))
     } else if first == b"tries".as_slice() {
-        Ok(tries_line(line)?)
+        or_fault(tries_line(line))
     } else if first == b"policy".as_slice() {
-        Ok(policy_line(line)?)
+        or_fault(policy_line(line))
     } else if first == b"link".as_slice() {
-        Ok(link_line(sites, line)?)
+        or_fault(link_line(sites, line))
     } else if first == b"stop".as_slice() {
-        Ok(stop_line(sites, line)?)
+        or_fault(stop_line(sites, line))
     } else {
         Err(Fault::Bad(BadWhy::Word))
     }

@@ -13,8 +13,8 @@ mod Answered
 mod Sends
 mod Lines
 mod OneWord
+mod FirstBytes
 mod Visible
-mod FrontWords
 mod UsualWords
 mod Spelled
 mod Computed

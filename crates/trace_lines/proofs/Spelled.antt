@@ -1,5 +1,5 @@
 -- A line and its bytes.
-use Rattle.std.proofs.Common.{◌≡◌, ℕ, ◌<◌, IsTrue, List, [], ◌∷◌, ◌++◌, map, length, Some, Result, Ok, Err, IfOk, IsErrOf, IsUtf8, length-append, sym, ap, ◌∙◌, arith}
+use Rattle.std.proofs.Common.{◌≡◌, ℕ, ◌<◌, IsTrue, List, [], ◌∷◌, ◌++◌, map, length, Some, Result, Ok, Err, IfOk, IsErrOf, length-append, sym, ap, ◌∙◌, arith}
 use Rattle.std.specs.List.{join_with_byte}
 use Rattle.std.proofs.lemmas.Option.{none-some, same_Some}
 use Rattle.std.proofs.lemmas.List.Splits.{join_with_byte-slice_split}
@@ -17,7 +17,7 @@ use Rattle.trace_lines.specs.Reading.{Gives, line_of}
 use Rattle.trace_lines.proofs.Pieces.{AreWords}
 use Rattle.trace_lines.proofs.Lines.{line_is_words, line_again, line_found}
 use Rattle.trace_lines.proofs.OneWord.{one_words}
-use Rattle.trace_lines.proofs.Visible.{pieces_again, words_are_text}
+use Rattle.trace_lines.proofs.Visible.{pieces_again}
 
 some_pieces : (words : List Word) → 0 < length words → AreWords words → pieces (words_bytes words) ≡ map word_text words
 some_pieces [] h k = absurd (omega arith)
@@ -31,10 +31,6 @@ has_words line =
 -- the pieces of a line's bytes are its words
 pub line_pieces : (line : Line) → IsTrue (is_line line) → pieces (line_bytes line) ≡ map word_text (line_words line)
 line_pieces line h = some_pieces (line_words line) (has_words line) (line_is_words line h)
-
--- a line is text
-pub line_is_text : (line : Line) → IsTrue (is_line line) → IsUtf8 (line_bytes line)
-line_is_text line h = words_are_text (line_words line) (line_is_words line h)
 
 -- words whose texts are the pieces of a line's bytes are read as it
 pub read_again : (words : List Word) (bytes : List ℕ) (line : Line) → AreWords words → map word_text words ≡ pieces bytes → IsTrue (is_line line) → bytes ≡ line_bytes line → line_of words ≡ Some line

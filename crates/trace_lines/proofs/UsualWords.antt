@@ -1,5 +1,5 @@
 -- What words that stand at the front of a text say: a command, an answer, places, and a line.
-use Rattle.std.proofs.Common.{◌≡◌, ℕ, ◌<◌, Bool, true, ◌==◌, IsTrue, List, [], ◌∷◌, ◌++◌, Some, map, codes, length, length-append, append-nil, refl, sym, ap, ◌∙◌, arith}
+use Rattle.std.proofs.Common.{◌≡◌, ℕ, Bool, true, ◌==◌, IsTrue, List, [], ◌∷◌, ◌++◌, Some, map, codes, length, append-nil, refl, sym, ap, ◌∙◌, arith}
 use Rattle.std.proofs.lemmas.Bool.{eqb-true}
 use Rattle.std.proofs.lemmas.List.{append_assoc, map-append}
 use Rattle.mdb_base.specs.Words.{each_of}
@@ -21,7 +21,17 @@ use Rattle.trace_lines.specs.Usual.{Asks, IsText, Says, Sends}
 use Rattle.trace_lines.proofs.Pieces.{AreWords}
 use Rattle.trace_lines.proofs.Answered.{answer_found}
 use Rattle.trace_lines.proofs.CommandLaws.{command_found}
-use Rattle.trace_lines.proofs.FrontWords.{spaced_words, word_more}
+
+-- each word behind a space is the words with one space between each two, behind a space
+pub spaced_words : (word : Word) (words : List Word) → spaced (word ∷ words) ≡ 32 ∷ words_bytes (word ∷ words)
+spaced_words word [] = ap (λ text. 32 ∷ text) (append-nil (word_text word))
+spaced_words word (next ∷ more) = ap (λ rest. 32 ∷ (word_text word ++ rest)) (spaced_words next more)
+
+-- one more word, and what stands behind it
+pub word_more : (words : List Word) (word : Word) (text rest behind : List ℕ) → text ≡ spaced words ++ 32 ∷ rest → rest ≡ word_text word ++ behind → text ≡ spaced (words ++ word ∷ []) ++ behind
+word_more words word text rest behind h e =
+    h ∙ ap (λ r. spaced words ++ 32 ∷ r) e ∙ sym (append_assoc (spaced words) (32 ∷ word_text word) behind)
+    ∙ ap (λ front. front ++ behind) (ap (λ last. spaced words ++ last) (sym (append-nil (32 ∷ word_text word))) ∙ sym (spaced_both words (word ∷ [])))
 
 -- a word before others
 pub word_before : (word : Word) (words : List Word) (text rest : List ℕ) → text ≡ spaced words ++ rest → 32 ∷ (word_text word ++ text) ≡ spaced (word ∷ words) ++ rest
@@ -50,10 +60,6 @@ pub place_more : (command : Command) (places : List Place) (sent : Place) (text 
 place_more command places sent text rest behind h e =
     word_more (map (place_word command) places) (place_word command sent) text (word_text (place_word command sent) ++ behind) behind (h ∙ ap (λ r. spaced (map (place_word command) places) ++ r) e) refl
     ∙ ap (λ ws. spaced ws ++ behind) (sym (map-append (place_word command) places (sent ∷ [])))
-
--- what is left behind a place is shorter
-pub behind_place : (command : Command) (sent : Place) (rest behind : List ℕ) → rest ≡ 32 ∷ (word_text (place_word command sent) ++ behind) → length behind < length rest
-behind_place command sent rest behind e = omega (arith, ap length e, length-append (word_text (place_word command sent)) behind)
 
 -- there is a place
 some_sent : (command : Command) (places : List Place) (sent : Place) → sends_words command (places ++ sent ∷ []) ≡ Plain Key.Sends ∷ map (place_word command) (places ++ sent ∷ [])

@@ -1,5 +1,5 @@
 -- What bytes are read as, computed: a word and its parts, the pieces between spaces, and a line.
-use Rattle.std.specs.Prelude.{ℕ, List, [], ◌∷◌, Option, Some, None, option_and_then, option_map, Bool, true, false, cond, ◌&&◌, ◌==◌, nat_lt}
+use Rattle.std.specs.Prelude.{ℕ, ◌≡◌, IsSome, slice_index_or, List, [], ◌∷◌, Option, Some, None, option_and_then, option_map, Bool, true, false, cond, ◌&&◌, ◌==◌, nat_lt}
 use Rattle.std.specs.Char.{is_digit}
 use Rattle.std.specs.Str.{bytes_eq}
 use Rattle.std.specs.Str.Parse.{digits_value}
@@ -31,9 +31,17 @@ keywords =
     Key.Settles ∷ Key.Answers ∷ Key.Presumes ∷ Key.Decides ∷ Key.Site ∷ Key.Cycle ∷ Key.Up ∷ Key.Epoch ∷
     Key.Doubtful ∷ Key.Known ∷ []
 
+-- the keyword of these that is spelled so
+abbrev pub spelled_in : List Keyword → List ℕ → Option Keyword
+spelled_in keywords bytes = first_where (λ keyword. bytes_eq (keyword_text keyword) bytes) keywords
+
 -- the keyword that is spelled so
 unfoldable pub keyword_in : List ℕ → Option Keyword
-keyword_in bytes = first_where (λ keyword. bytes_eq (keyword_text keyword) bytes) keywords
+keyword_in = spelled_in keywords
+
+-- among these is each keyword that begins with this byte
+abbrev pub Covers : ℕ → List Keyword → Type 0
+Covers first group = (keyword : Keyword) → slice_index_or (keyword_text keyword) 0 0 ≡ first → IsSome (spelled_in group (keyword_text keyword))
 
 -- a digit stands alone, or it isn't `0`
 abbrev pub leads : ℕ → List ℕ → Bool

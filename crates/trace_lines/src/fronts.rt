@@ -2,10 +2,10 @@
 ghost use Rattle.std.specs.Prelude.{◌≡◌, ◌-◌, ◌<◌, ◌∷◌, ◌++◌, length, slice_index_or, IsTrue, IfSome, decimal};
 ghost use Rattle.std.specs.Int.{IsInRange};
 ghost use Rattle.line_text.specs.Range.{is_large, is_word};
-ghost use Rattle.line_text.specs.Words.{word_text};
+ghost use Rattle.line_text.specs.Words.{keyword_text, word_text};
 ghost use Rattle.line_text.specs.declared.word.Word.TheVariants.{Number, Plain};
 
-use crate::front_keywords::front_keyword;
+use crate::keywords::{first_byte, group_of, spelling};
 use crate::lexing::{place_at, tid_at};
 use line_text::{Keyword, Word};
 
@@ -74,17 +74,31 @@ fn front_numbers(text: &[u8]) -> Option<(Word, &[u8])>
     }
 }
 
-/// The word that a text begins with, and the text behind it.
-pub fn front_word(text: &[u8]) -> Option<(Word, &[u8])>
-    ensures { IfSome result (λ p. IsTrue (is_word p.0) × (text.now ≡ word_text p.0 ++ p.1.now)) }
+/// What stands behind a word, where a text begins with it.
+#[inline(always)]
+pub fn behind<'a>(text: &'a [u8], word: &str) -> Option<&'a [u8]>
+    ensures { IfSome result (λ rest. text.now ≡ word.now ++ rest.now) }
 {
-    match text {
-        [b'0'..=b'9', ..] => front_numbers(text),
-        _ => {
-            let (keyword, rest) = front_keyword(text)?;
-            Some((Word::Plain(keyword), rest))
+    let mut rest = text;
+    for byte in word.as_bytes() {
+        match rest {
+            [first, more @ ..] if *first == *byte => rest = more,
+            _ => return None,
         }
     }
+    Some(rest)
+}
+
+/// The keyword that a text begins with, and the text behind it. Of two that begin alike the longer one is tried first.
+pub fn front_keyword(text: &[u8]) -> Option<(Keyword, &[u8])>
+    ensures { IfSome result (λ p. text.now ≡ keyword_text p.0 ++ p.1.now) }
+{
+    for keyword in group_of(first_byte(text)) {
+        if let Some(rest) = behind(text, spelling(*keyword)) {
+            return Some((*keyword, rest));
+        }
+    }
+    None
 }
 
 /// The number that stands behind a space at the front of a text, and the text behind it.

@@ -10,7 +10,6 @@ ghost use Rattle.line_text.specs.declared.word.Word.{Word};
 ghost use Rattle.line_text.specs.Words.{place_text, edge_text, word_text};
 
 use crate::error::LineErr;
-use crate::front_words::usual_words;
 use crate::keywords::keyword_of;
 use crate::numbers::site_of;
 use fed_rules::Place;
@@ -18,6 +17,9 @@ use line_text::Word;
 use mdb_base::{Edge, SiteId, Tid, Tx};
 use std::alloc::Global;
 use std::str;
+
+/// How many words a line has room for at first: most have no more.
+const WORDS: usize = 12;
 
 /// Whether a text begins as a number does: with a digit, and with `0` only where that stands alone.
 fn begins_as_number(text: &str) -> bool
@@ -120,7 +122,7 @@ pub fn word_of(text: &str) -> Option<Word>
     ensures { Spells is_word word_text text.now result }
 {
     if !begins_with_digit(text) {
-        return Some(Word::Plain(keyword_of(text)?));
+        return Some(Word::Plain(keyword_of(text.as_bytes())?));
     }
     if let Some(number) = number_of(text) {
         return Some(Word::Number(number));
@@ -135,29 +137,25 @@ pub fn word_of(text: &str) -> Option<Word>
     Some(Word::Joined(edge))
 }
 
-/// The words of a text, piece by piece.
-#[inline(never)]
-fn words_by_pieces(alloc: Global, text: &str) -> Result<Vec<Word>, LineErr>
+/// The words of a text, which stand with one space between each two.
+fn words_of_text(alloc: Global, text: &str) -> Result<Vec<Word>, LineErr>
     ensures found { IfOk result (λ words. Each (λ word. IsTrue (is_word word)) words.items × (map word_text words.items ≡ pieces text.now)) }
     ensures none { IsErrOf result LineErr.NoLine → (words : List Word) → Each (λ word. IsTrue (is_word word)) words → map word_text words ≡ pieces text.now → ⊥ }
 {
-    let mut words = Vec::new(alloc);
+    let mut words = Vec::with_capacity(alloc, WORDS)?;
     for word in text.split(' ') {
         words.push(word_of(word).ok_or(LineErr::NoLine)?)?;
     }
     Ok(words)
 }
 
-/// The words of bytes that are text, which stand with one space between each two.
+/// The words of bytes that are text.
 pub fn words_of(alloc: Global, text: &[u8]) -> Result<Vec<Word>, LineErr>
     ensures found { IfOk result (λ words. Each (λ word. IsTrue (is_word word)) words.items × (map word_text words.items ≡ pieces text.now)) }
     ensures none { IsErrOf result LineErr.NoLine → (words : List Word) → Each (λ word. IsTrue (is_word word)) words → map word_text words ≡ pieces text.now → ⊥ }
 {
-    if let Some(words) = usual_words(alloc, text)? {
-        return Ok(words);
-    }
     let Ok(text) = str::from_utf8(text) else {
         return Err(LineErr::NoLine);
     };
-    words_by_pieces(alloc, text)
+    words_of_text(alloc, text)
 }

@@ -16,8 +16,6 @@ mod answers;
 mod commands;
 mod error;
 mod fits;
-mod front_keywords;
-mod front_words;
 mod fronts;
 mod keywords;
 mod lexing;

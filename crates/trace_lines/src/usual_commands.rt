@@ -3,8 +3,7 @@ ghost use Rattle.std.specs.Prelude.{IfSome};
 ghost use Rattle.trace_lines.specs.Usual.{Asks};
 
 use crate::commands::{number_command, pair_command};
-use crate::front_keywords::front_keyword;
-use crate::fronts::number_behind;
+use crate::fronts::{front_keyword, number_behind};
 use fed_rules::Command;
 
 /// The command of one number, or of a site and a place, that a text begins with, and the text behind it.

@@ -5,7 +5,7 @@ use Rattle.std.proofs.lemmas.Iterator.Consumers.{YieldsList-turn, YieldsList-end
 use Rattle.line_text.specs.Words.{word_text}
 use Rattle.trace_lines.specs.Lexing.{pieces}
 use Rattle.trace_lines.proofs.Pieces.{AreWords, IsAt, words_push, texts_push, no_word_at}
-use Rattle.trace_lines.proofs.lexing.words_by_pieces.Goals as goal
+use Rattle.trace_lines.proofs.lexing.words_of_text.Goals as goal
 
 pub returns-in_err-ok_or-clause-none : goal.returns-in_err-ok_or-clause-none
 returns-in_err-ok_or-clause-none c =
