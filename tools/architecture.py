@@ -24,7 +24,7 @@ FLOORS = [
     ("threads", "A run in threads", "hosts behind a lock each; touch the actors' public calls",
      "federation_run fed_hosts"),
     ("world", "World", "who gets which message; touches the actors' public calls",
-     "run_audit closing fed_world session_report session_routes"),
+     "run_audit closing world_recovery fed_world session_report session_routes"),
     ("actors", "Actors", "one event, one answer; each touches its own parts and its own disk",
      "local_dbms site_core global_manager coord_core"),
     ("engines", "Engines", "one rule of concurrency control each; touches the rows and runs of one site",

@@ -1,7 +1,6 @@
 pub mod ForCallers
 mod ActorHears
 mod Asking
-mod BackSteps
 mod Broken
 mod CoordHeard
 mod DeclaredPlaces
@@ -10,15 +9,10 @@ mod DeclaredTransactions
 mod Disks
 mod Faults
 mod FewCommands
-mod FoundBegun
-mod FoundDisks
-mod FoundJournals
-mod FoundLines
 mod FoundMessages
 mod FoundSites
 mod FreshWorlds
 mod Gathered
-mod GoingBack
 mod Growing
 mod Lookups
 mod MarkedSeats
@@ -26,8 +20,6 @@ mod NewWorlds
 mod Nowhere
 mod Pairs
 mod Recalled
-mod ReopenedWorlds
-mod Reopens
 mod Reports
 mod RightLines
 mod Routed

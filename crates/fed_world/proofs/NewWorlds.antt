@@ -1,5 +1,5 @@
 -- A world whose sites were just set up stands for no line.
-use Rattle.std.proofs.Common.{◌≡◌, Bool, false, IsTrue, Option, Some, None, inl, List, [], length, map, reverse, slice_get, refl, sym, ◌∙◌, ap, subst, arith}
+use Rattle.std.proofs.Common.{◌≡◌, Bool, IsTrue, Option, Some, None, inl, List, [], length, map, reverse, slice_get, refl, sym, ◌∙◌, ap, subst, arith}
 use Rattle.mdb_base.specs.declared.names.SiteId.{SiteId}
 use Rattle.mdb_base.proofs.ForCallers.{slice_get-there}
 use Rattle.order_laws.specs.Chains.{In}
@@ -16,19 +16,20 @@ use Rattle.fed_rules.proofs.ForCallers.{its-site}
 use Rattle.world_laws.proofs.ForCallers.{homeless}
 use Rattle.journal_disk.specs.Disk.{IsSound, Seen}
 use Rattle.any_engine.specs.declared.engine.AnyEngine.{AnyEngine}
+use Rattle.conservative_take.specs.declared.any_policy.AnyPolicy.{AnyPolicy}
+use Rattle.global_manager.specs.declared.manager.GlobalManager.{GlobalManager}
 use Rattle.local_dbms.specs.declared.dbms.LocalDbms.{LocalDbms}
 use Rattle.local_dbms.specs.Stands.{own_programs}
 use Rattle.session_report.specs.declared.marks.Marks.{Marks}
 use Rattle.session_report.specs.Marks.{kept_marks}
 use Rattle.session_routes.specs.declared.traffic.Traffic.{Traffic}
-use Rattle.session_routes.specs.Routes.{IsRouted}
 use Rattle.std.specs.Global.{Vec}
 use Rattle.mdb_base.specs.declared.names.Tid.{Tid}
 use Rattle.fed_world.specs.Beginnings.{Remembers}
 use Rattle.fed_world.specs.Lines.{IsRightIn}
 use Rattle.fed_world.specs.Seats.{SiteAt}
 use Rattle.fed_world.specs.declared.world.World.{World}
-use Rattle.fed_world.specs.SettingUp.{AreSetUp, EmptyBut, IsNewChannel, IsNewManager, IsNewMarks}
+use Rattle.fed_world.specs.SettingUp.{AreSetUp, EmptyBut, IsNewManager, IsNewWorld}
 use Rattle.fed_world.specs.Worlds.{ActorsStand, AreDisks, DbmsStands, HasLines, Stands}
 use Rattle.fed_world.proofs.DeclaredSites.{declared_ranged, site_home}
 
@@ -82,16 +83,21 @@ new_site tells disks dbms own traffic scenario site i stood marks channel =
 
 -- the world of the sites that were set up, with the coordinator and its empty disk
 pub new_stands : (tells : Bool) (world : World) (disks : List Seen) (scenario : Scenario) → IsScenario scenario → IsTrue tells → length disks ≡ 9 → ((seen : Seen) → slice_get disks 0 ≡ Some seen → TellsBytes seen)
-    → world.cores.scenario ≡ scenario → world.begun ≡ None → world.lines.items ≡ [] → world.broken ≡ false → IsRouted world.routes scenario → IsNewManager world.cores.coordinator scenario
-    → AreSetUp tells world.cores.sites.items.items disks scenario → length world.cores.marks.items ≡ length (sites scenario) → IsNewMarks (sites scenario) world.cores.marks.items
-    → length world.traffic.items ≡ length (sites scenario) → IsNewChannel (sites scenario) world.traffic.items → Stands tells world disks (fresh scenario) []
-new_stands tells world disks scenario whole told nine bytes same begun none unbroken routed manager up all_marks marks all_channels channels = record {
-  has = new_lines world scenario same begun none;
-  whole = unbroken;
-  routed = routed;
+    → (manager : GlobalManager AnyPolicy) (cores : List (LocalDbms AnyEngine)) → IsNewWorld world scenario manager cores None → IsNewManager manager scenario → AreSetUp tells cores disks scenario
+    → Stands tells world disks (fresh scenario) []
+new_stands tells world disks scenario whole told nine bytes manager cores w fresh_manager set_up = record {
+  has = new_lines world scenario w.scenario_is w.begun w.lines;
+  whole = w.whole;
+  routed = w.routed;
   stand = stand;
 }
   where
+    begins : IsNewManager world.cores.coordinator scenario
+    begins = subst (λ (m : GlobalManager AnyPolicy). IsNewManager m scenario) (sym w.coordinator_is) fresh_manager
+
+    up : AreSetUp tells world.cores.sites.items.items disks scenario
+    up = subst (λ (ds : List (LocalDbms AnyEngine)). AreSetUp tells ds disks scenario) (sym w.cores_are) set_up
+
     stand : ActorsStand tells world disks (fresh scenario) []
     stand =
         let (seen, own) = slice_get-there disks 0 (omega (arith, nine)) in
@@ -101,15 +107,15 @@ new_stands tells world disks scenario whole told nine bytes same begun none unbr
             coordinator = record {
               disk = seen;
               own = own;
-              holds = manager tells seen (record { told = told; empty = up.empty 0 seen own (not_a_site scenario whole); bytes = b.bytes; sound = b.sound });
+              holds = begins tells seen (record { told = told; empty = up.empty 0 seen own (not_a_site scenario whole); bytes = b.bytes; sound = b.sound });
             };
             sites = record {
               all_cores = up.count;
-              all_marks = all_marks;
-              all_channels = all_channels;
+              all_marks = w.all_marks;
+              all_channels = w.all_channels;
               each = λ place site dbms marked traffic at got kept sent.
                   new_site tells disks dbms marked traffic scenario site (slice_get-in (sites scenario) place site at)
-                  (λ home declared. up.each place site home dbms at declared got) (marks place site marked at kept) (channels place site traffic at sent);
+                  (λ home declared. up.each place site home dbms at declared got) (w.marks place site marked at kept) (w.channels place site traffic at sent);
             };
           };
           few = record { to = λ site. omega arith; from = λ site. omega arith };

@@ -1,12 +1,10 @@
 pub mod Asks
 pub mod Beginnings
 pub mod Faults
-pub mod FoundBegun
 pub mod Gathering
 pub mod Hearers
 pub mod Lines
 pub mod Messages
-pub mod Reopening
 pub mod Reporting
 pub mod SettingUp
 pub mod Worlds

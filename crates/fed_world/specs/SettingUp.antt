@@ -1,6 +1,8 @@
 -- How far the setting up of a world came, and the rows that a site starts from.
-use Rattle.std.specs.Prelude.{ℕ, ◌≡◌, Bool, Some, List, [], ◌∷◌, ◌++◌, length, slice_get}
+use Rattle.std.specs.Prelude.{ℕ, ◌≡◌, Bool, false, Option, Some, List, [], ◌∷◌, ◌++◌, length, slice_get}
+use Rattle.std.specs.Global.{Vec}
 use Rattle.mdb_base.specs.declared.names.SiteId.{SiteId}
+use Rattle.mdb_base.specs.declared.names.Tid.{Tid}
 use Rattle.mdb_base.specs.Words.{Each, first_where}
 use Rattle.order_laws.specs.Chains.{In}
 use Rattle.fed_rules.specs.declared.scenario.Scenario.{Scenario}
@@ -24,6 +26,9 @@ use Rattle.fed_world.specs.declared.errors.WorldErr.{WorldErr}
 use Rattle.fed_world.specs.declared.errors.WorldErr.TheVariants as Err_is
 use Rattle.session_report.specs.declared.marks.Marks.{Marks}
 use Rattle.session_routes.specs.declared.traffic.Traffic.{Traffic}
+use Rattle.session_routes.specs.Routes.{IsRouted}
+use Rattle.fed_world.specs.declared.setting_up.Beginning.{Beginning}
+use Rattle.fed_world.specs.declared.world.World.{World}
 use Rattle.fed_world.specs.Asks.{terms_of}
 use Rattle.fed_world.specs.Worlds.{DbmsStands}
 
@@ -93,3 +98,25 @@ IsNewMarks sites marks = (place : ℕ) (site : SiteId) (one : Marks) → slice_g
 -- the coordinator of the scenario, with an empty disk, stands for no line
 abbrev pub IsNewManager : GlobalManager AnyPolicy → Scenario → Type 0
 IsNewManager manager scenario = (tells : Bool) (seen : Seen) → IsEmptyDisk tells seen → Manager.Stands policy_is tells manager seen (terms_of scenario) (global_program scenario) []
+
+-- the world of the scenario begins with this beside its actors
+pub record IsBeginningOf (beginning : Beginning) (scenario : Scenario) : Type 0 where
+  pub routed : IsRouted beginning.routes scenario
+  pub all_channels : length beginning.traffic.items ≡ length (sites scenario)
+  pub channels : IsNewChannel (sites scenario) beginning.traffic.items
+  pub all_marks : length beginning.marks.items ≡ length (sites scenario)
+  pub marks : IsNewMarks (sites scenario) beginning.marks.items
+
+-- the world is of these actors, has neither lines nor messages, and these attempts were begun before
+pub record IsNewWorld (world : World) (scenario : Scenario) (coordinator : GlobalManager AnyPolicy) (cores : List (LocalDbms AnyEngine)) (tids : Option (Vec Tid)) : Type 0 where
+  pub scenario_is : world.cores.scenario ≡ scenario
+  pub coordinator_is : world.cores.coordinator ≡ coordinator
+  pub cores_are : world.cores.sites.items.items ≡ cores
+  pub routed : IsRouted world.routes scenario
+  pub all_channels : length world.traffic.items ≡ length (sites scenario)
+  pub channels : IsNewChannel (sites scenario) world.traffic.items
+  pub all_marks : length world.cores.marks.items ≡ length (sites scenario)
+  pub marks : IsNewMarks (sites scenario) world.cores.marks.items
+  pub lines : world.lines.items ≡ []
+  pub whole : world.broken ≡ false
+  pub begun : world.begun ≡ tids

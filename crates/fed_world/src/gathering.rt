@@ -73,9 +73,11 @@ impl World {
         ensures stands { IfOk result (λ world. (tells : Bool) (disks : List Seen) → EachStory (GathersOn tells disks cores lines channels) (λ scenario. Stands tells world disks (fresh scenario))) }
     {
         let Ok(routes) = routes_of(alloc, &cores.scenario) else {
+            drop(cores);
             return Err(Memory);
         };
         let Ok(traffic) = traffic_of(alloc, channels) else {
+            drop(cores);
             return Err(Memory);
         };
         Ok(World {

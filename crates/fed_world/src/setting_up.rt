@@ -12,7 +12,7 @@ ghost use Rattle.local_dbms.specs.Stands.{own_programs};
 ghost use Rattle.local_dbms.specs.Stands as Dbms;
 ghost use Rattle.session_routes.specs.Routes.{IsRouted};
 ghost use Rattle.site_core.specs.Store.{SomeStop};
-ghost use Rattle.fed_world.specs.SettingUp.{AreEmpty, AreSetUp, FailsToStart, IsHomed, IsNewChannel, IsNewManager, IsNewMarks};
+ghost use Rattle.fed_world.specs.SettingUp.{AreEmpty, AreSetUp, FailsToStart, IsBeginningOf, IsHomed, IsNewChannel, IsNewManager, IsNewMarks, IsNewWorld};
 ghost use Rattle.fed_world.specs.Faults.{CountsTell};
 ghost use Rattle.fed_world.specs.Worlds.{Stands};
 
@@ -25,14 +25,14 @@ use fed_rules::{Scenario, SiteLine};
 use global_manager::GlobalManager;
 use journal_disk::Disk;
 use local_dbms::{LocalDbms, StepErr};
-use mdb_base::{Memory, SiteId};
+use mdb_base::{Memory, SiteId, Tid};
 use presumptions::Participants;
 use session_report::Marks;
 use session_routes::{Routes, Traffic, first_rows, line_of, protocols_of, sites_of};
 use std::alloc::Global;
 
 /// The declared sites of a scenario, by rising number.
-pub(crate) fn declared_sites(alloc: Global, scenario: &Scenario) -> Result<Vec<SiteId>, Memory>
+pub fn declared_sites(alloc: Global, scenario: &Scenario) -> Result<Vec<SiteId>, Memory>
     ensures declared { IfOk result (λ declared. declared.items ≡ sites scenario.now) }
     ensures whole { IsScenario scenario.now }
 {
@@ -122,7 +122,7 @@ fn set_up_sites<D: Disk>(
 }
 
 /// The channels of these sites, in which nothing was sent.
-pub(crate) fn new_channels(alloc: Global, sites: &[SiteId]) -> Result<Vec<Traffic>, Memory>
+fn new_channels(alloc: Global, sites: &[SiteId]) -> Result<Vec<Traffic>, Memory>
     ensures count { IfOk result (λ channels. length channels.items ≡ length sites.now) }
     ensures each { IfOk result (λ channels. IsNewChannel sites.now channels.items) }
 {
@@ -139,7 +139,7 @@ pub(crate) fn new_channels(alloc: Global, sites: &[SiteId]) -> Result<Vec<Traffi
 }
 
 /// The marks of these sites, of which there are none.
-pub(crate) fn new_marks(alloc: Global, sites: &[SiteId]) -> Result<Vec<Marks>, Memory>
+fn new_marks(alloc: Global, sites: &[SiteId]) -> Result<Vec<Marks>, Memory>
     ensures count { IfOk result (λ marks. length marks.items ≡ length sites.now) }
     ensures each { IfOk result (λ marks. IsNewMarks sites.now marks.items) }
 {
@@ -167,45 +167,68 @@ fn new_coordinator(alloc: Global, scenario: &Scenario) -> Result<GlobalManager<A
     }
 }
 
-/// What a world begins with beside its sites: who hears of a command, a channel and the marks of each site, and the coordinator.
+/// What a world begins with beside its actors: who hears of a command, and a channel and the marks of each site.
 #[derive(Drop)]
 struct Beginning {
     routes: Routes,
     traffic: Vec<Traffic>,
     marks: Vec<Marks>,
-    coordinator: GlobalManager<AnyPolicy>,
 }
 
-/// What the world of a scenario begins with, of which these are the sites.
-fn beginning_of(
-    alloc: Global,
-    scenario: &Scenario,
-    declared: &[SiteId],
-) -> Result<Beginning, Memory>
-    ensures routed { IfOk result (λ beginning. IsRouted beginning.routes scenario.now) }
-    ensures channels { IfOk result (λ beginning. length beginning.traffic.items ≡ length declared.now) }
-    ensures unsent { IfOk result (λ beginning. IsNewChannel declared.now beginning.traffic.items) }
-    ensures marks { IfOk result (λ beginning. length beginning.marks.items ≡ length declared.now) }
-    ensures unmarked { IfOk result (λ beginning. IsNewMarks declared.now beginning.marks.items) }
-    ensures manager { IfOk result (λ beginning. IsNewManager beginning.coordinator scenario.now) }
+/// What the world of a scenario begins with beside its actors.
+fn beginning_of(alloc: Global, scenario: &Scenario) -> Result<Beginning, Memory>
+    ensures { IfOk result (λ beginning. IsBeginningOf beginning scenario.now) }
 {
+    let declared = declared_sites(alloc, scenario)?;
     let routes = routes_of(alloc, scenario)?;
-    let traffic = new_channels(alloc, declared)?;
-    let marks = new_marks(alloc, declared)?;
-    let coordinator = new_coordinator(alloc, scenario)?;
+    let traffic = new_channels(alloc, declared.as_slice())?;
+    let marks = new_marks(alloc, declared.as_slice())?;
     Ok(Beginning {
         routes,
         traffic,
         marks,
-        coordinator,
     })
+}
+
+impl Beginning {
+    /// The world of these actors that begins with this; where it goes on from disks, records name these attempts.
+    fn into_world(
+        self,
+        alloc: Global,
+        scenario: Scenario,
+        coordinator: GlobalManager<AnyPolicy>,
+        sites: Vec<LocalDbms<AnyEngine>>,
+        begun: Option<Vec<Tid>>,
+    ) -> World
+        requires { IsBeginningOf self scenario }
+        ensures { IsNewWorld result scenario coordinator sites.items begun }
+    {
+        let Beginning {
+            routes,
+            traffic,
+            marks,
+        } = self;
+        World {
+            cores: Cores {
+                scenario,
+                coordinator,
+                sites: SiteCores::of(sites),
+                marks,
+            },
+            routes,
+            traffic,
+            lines: Vec::new(alloc),
+            broken: false,
+            begun,
+            places: Vec::new(alloc),
+        }
+    }
 }
 
 impl World {
     /// The world of a scenario on nine empty disks: the coordinator's is disk 0, and a site's that of its number. The sites are set up by
     /// rising number. After a refusal those before the refused one are set up; on the disk of one whose disk call failed is what some stop
     /// within its set-up leaves, and on each other disk nothing.
-    #[tactic(none)]
     pub fn new<D: Disk>(
         alloc: Global,
         scenario: Scenario,
@@ -220,35 +243,49 @@ impl World {
         ensures count { length disks.new.items ≡ 9 }
     {
         let Ok(declared) = declared_sites(alloc, &scenario) else {
+            drop(scenario);
             return Err(WorldErr::Memory);
         };
-        let Ok(beginning) = beginning_of(alloc, &scenario, declared.as_slice()) else {
+        let Ok(beginning) = beginning_of(alloc, &scenario) else {
+            drop(scenario);
+            return Err(WorldErr::Memory);
+        };
+        let Ok(coordinator) = new_coordinator(alloc, &scenario) else {
+            drop(scenario);
+            drop(beginning);
             return Err(WorldErr::Memory);
         };
         match set_up_sites(alloc, &scenario, declared.as_slice(), disks) {
-            Ok(items) => {
-                let Beginning {
-                    routes,
-                    traffic,
-                    marks,
-                    coordinator,
-                } = beginning;
-                Ok(World {
-                    cores: Cores {
-                        scenario,
-                        coordinator,
-                        sites: SiteCores::of(items),
-                        marks,
-                    },
-                    routes,
-                    traffic,
-                    lines: Vec::new(alloc),
-                    broken: false,
-                    begun: None,
-                    places: Vec::new(alloc),
-                })
+            Ok(sites) => Ok(beginning.into_world(alloc, scenario, coordinator, sites, None)),
+            Err(why) => {
+                drop(scenario);
+                drop(beginning);
+                drop(coordinator);
+                Err(why)
             }
-            Err(why) => Err(why),
+        }
+    }
+
+    /// The world of these actors, which goes on where records name these attempts: it has neither lines nor messages.
+    pub fn resume(
+        alloc: Global,
+        scenario: Scenario,
+        coordinator: GlobalManager<AnyPolicy>,
+        sites: Vec<LocalDbms<AnyEngine>>,
+        begun: Vec<Tid>,
+    ) -> Result<World, Memory>
+        ensures { IfOk result (λ world. IsNewWorld world scenario coordinator sites.items (Some begun)) }
+    {
+        match beginning_of(alloc, &scenario) {
+            Ok(beginning) => {
+                Ok(beginning.into_world(alloc, scenario, coordinator, sites, Some(begun)))
+            }
+            Err(Memory) => {
+                drop(scenario);
+                drop(coordinator);
+                drop(sites);
+                Err(Memory)
+            }
         }
     }
 }

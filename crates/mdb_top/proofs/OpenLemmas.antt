@@ -6,7 +6,7 @@ use Rattle.order_laws.specs.Chains.{In}
 use Rattle.federation_run.proofs.ForCallers.{before_or_last}
 use Rattle.journal_disk.specs.Disk.{Image, Seen}
 use Rattle.found_disks.specs.Reading.{images_of}
-use Rattle.fed_world.specs.Reopening.{AreSynced}
+use Rattle.world_recovery.specs.Reopening.{AreSynced}
 use Rattle.file_disks.specs.declared.errors.OpenErr.{OpenErr}
 use Rattle.file_disks.specs.declared.errors.OpenErr.TheVariants as Open_err
 use Rattle.file_disks.specs.Stores.{IsLarge, journal_of}

@@ -1,6 +1,6 @@
 //! A session that goes on from the journals on its disks.
 ghost use Rattle.std.specs.Prelude.{◌≡◌, IfOk, IsTrue, length, map};
-ghost use Rattle.fed_world.specs.Reopening.{AreSynced};
+ghost use Rattle.world_recovery.specs.Reopening.{AreSynced};
 ghost use Rattle.found_disks.specs.Reading.{images_of};
 ghost use Rattle.mdb_top.specs.Audits.{IsSaid};
 ghost use Rattle.mdb_top.specs.Resuming.{IsRefusalPut, ResumeEnds};

@@ -3,7 +3,7 @@ ghost use Rattle.std.specs.Prelude.{◌≡◌, ◌↔◌, [], ◌∷◌, IsTrue,
 ghost use Rattle.order_laws.specs.Chains.{In};
 ghost use Rattle.scenario_text.specs.Kept.{AreCommands};
 ghost use Rattle.scenario_text.specs.Texts.{scenario_of, session_of};
-ghost use Rattle.fed_world.specs.Reopening.{AreSynced};
+ghost use Rattle.world_recovery.specs.Reopening.{AreSynced};
 ghost use Rattle.found_disks.specs.Reading.{images_of};
 ghost use Rattle.session_outputs.specs.declared.making.Making.{Making as TheMaking};
 ghost use Rattle.session_outputs.specs.Makes as makes;

@@ -142,7 +142,7 @@ breaks_behind see each tells world old mid disks found number told sized goes sa
         before = b.before;
         were = calm_since see old mid b.before same b.were;
         kept = stands_keeps tells b.was b.before (going_on found) (b.done ++ []) told (subst AreSized b.were.are (all_sized see each b.were.disks)) goes b.stood;
-        rose = b.rose;
+        rose = record { before = b.rose.before; now = b.rose.now; own = b.rose.own; later = b.rose.later; rose = b.rose.rose; others = b.rose.others };
         disk = seen;
         own = at;
         stop = stop;

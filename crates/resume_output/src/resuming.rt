@@ -1,6 +1,6 @@
 //! A session that goes on from nine disks.
 ghost use Rattle.std.specs.Prelude.{◌≡◌, IsTrue, length, map};
-ghost use Rattle.fed_world.specs.Reopening.{AreSynced};
+ghost use Rattle.world_recovery.specs.Reopening.{AreSynced};
 ghost use Rattle.found_disks.specs.Reading.{images_of};
 ghost use Rattle.resume_output.specs.Resumes as resumes;
 ghost use Rattle.resume_output.specs.Resumes.{GoesOnFromLeft, ResumesAs};
@@ -16,6 +16,7 @@ use line_laws::{resumed_lines_fit, sessions_close_heard};
 use mdb_base::Memory;
 use outputs::{Output, broken};
 use std::alloc::Global;
+use world_recovery::Reopen;
 
 /// The most bytes of a journal from which a session goes on.
 const LONGEST_JOURNAL: u64 = 67_108_864;

@@ -5,7 +5,7 @@ use Rattle.journal_disk.specs.declared.mem_disk.MemDisk.{MemDisk}
 use Rattle.journal_disk.specs.MemDisk.{mem_image}
 use Rattle.site_core.specs.Sessions.{mem_seen}
 use Rattle.found_disks.specs.Reading.{images_of}
-use Rattle.fed_world.specs.Reopening.{AreSynced}
+use Rattle.world_recovery.specs.Reopening.{AreSynced}
 use Rattle.session_tests.proofs.tests.stopped.resumed.Goals as goal
 
 -- what holds of each disk holds of the one at each place

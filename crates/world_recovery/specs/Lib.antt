@@ -1,0 +1,2 @@
+pub mod FoundBegun
+pub mod Reopening
