@@ -46,28 +46,24 @@ pub view_same_but : (a b : SiteView) → a ≡ b → a ≡ record b { empties = 
 view_same_but a b same =
     view_from a (record b { empties = a.empties }) (ap (λ (v : SiteView). v.site) same) (ap (λ (v : SiteView). v.lines) same) (ap (λ (v : SiteView). v.took) same) refl (ap (λ (v : SiteView). v.idle) same) (ap (λ (v : SiteView). v.failed) same)
 
--- what is seen where nothing was answered, from before room was made
-pub put_back_from : (old ready new : SiteView) → ready ≡ old → new.site ≡ ready.site → new.lines ≡ ready.lines → new.took ≡ ready.took → new.idle ≡ ready.idle → new.failed ≡ ready.failed → new ≡ record old { empties = new.empties }
-put_back_from old ready new same site lines took idle failed =
-    subst (λ (v : SiteView). new ≡ record v { empties = new.empties }) same (view_from new (record ready { empties = new.empties }) site lines took refl idle failed)
+-- what is seen where nothing was answered
+pub put_back_from : (old new : SiteView) → new.site ≡ old.site → new.lines ≡ old.lines → new.took ≡ old.took → new.idle ≡ old.idle → new.failed ≡ old.failed → new ≡ record old { empties = new.empties }
+put_back_from old new site lines took idle failed = view_from new (record old { empties = new.empties }) site lines took refl idle failed
 
--- what is seen where a packet was heard, from before room was made
-pub hears_from : (programs : OwnPrograms) (packet : Packet) (old ready new : SiteView) (took : List Packet) (empties : ℕ) (made : Bool) → ready ≡ old → took ≡ ready.took ++ packet ∷ [] → empties ≡ ready.empties
-    → new ≡ record ready { lines = new.lines; took = took; empties = empties } → Takes programs ready.site packet ready.lines new.lines made → Hears programs old new made
-hears_from programs packet old ready new took empties made same took_are counted beside takes =
-    subst (λ (v : SiteView). Hears programs v new made) same
-    (record { packet = packet; takes = takes; others = beside ∙ ap₂ (λ (ps : List Packet) (n : ℕ). record ready { lines = new.lines; took = ps; empties = n }) took_are counted })
+-- what is seen where a packet was heard
+pub hears_from : (programs : OwnPrograms) (packet : Packet) (old new : SiteView) (took : List Packet) (empties : ℕ) (made : Bool) → took ≡ old.took ++ packet ∷ [] → empties ≡ old.empties
+    → new ≡ record old { lines = new.lines; took = took; empties = empties } → Takes programs old.site packet old.lines new.lines made → Hears programs old new made
+hears_from programs packet old new took empties made took_are counted beside takes =
+    record { packet = packet; takes = takes; others = beside ∙ ap₂ (λ (ps : List Packet) (n : ℕ). record old { lines = new.lines; took = ps; empties = n }) took_are counted }
 
--- what is seen where nothing was heard, from before room was made
-pub waits_from : (home : Home) (past : SitePast) (old ready new : SiteView) (took : List Packet) (empties : ℕ) (made : Bool) → ready ≡ old → took ≡ ready.took → empties ≡ min (ready.empties + 1) (2 ^ 64 - 1)
-    → new ≡ record ready { lines = new.lines; took = took; empties = empties; idle = new.idle } → Inquires home past (record ready { took = took; empties = empties }) new made → Waits home past old new made
-waits_from home past old ready new took empties made same took_are counted beside inquires =
-    subst (λ (v : SiteView). Waits home past v new made) same
-    (record {
-      counted = subst (λ (n : ℕ). IsCounted ready.empties n) (sym (ap (λ (v : SiteView). v.empties) beside)) (counted_once ready.empties ready.empties empties refl counted);
-      inquires = inquires_beside home past ready new took empties made inquires;
-      others = view_from new (record ready { lines = new.lines; empties = new.empties; idle = new.idle }) (ap (λ (v : SiteView). v.site) beside) refl (ap (λ (v : SiteView). v.took) beside ∙ took_are) refl refl (ap (λ (v : SiteView). v.failed) beside);
-    })
+-- what is seen where nothing was heard
+pub waits_from : (home : Home) (past : SitePast) (old new : SiteView) (took : List Packet) (empties : ℕ) (made : Bool) → took ≡ old.took → empties ≡ min (old.empties + 1) (2 ^ 64 - 1)
+    → new ≡ record old { lines = new.lines; took = took; empties = empties; idle = new.idle } → Inquires home past (record old { took = took; empties = empties }) new made → Waits home past old new made
+waits_from home past old new took empties made took_are counted beside inquires = record {
+  counted = subst (λ (n : ℕ). IsCounted old.empties n) (sym (ap (λ (v : SiteView). v.empties) beside)) (counted_once old.empties old.empties empties refl counted);
+  inquires = inquires_beside home past old new took empties made inquires;
+  others = view_from new (record old { lines = new.lines; empties = new.empties; idle = new.idle }) (ap (λ (v : SiteView). v.site) beside) refl (ap (λ (v : SiteView). v.took) beside ∙ took_are) refl refl (ap (λ (v : SiteView). v.failed) beside);
+}
 
 pub err_map : {X Y : Type 0} (r : Result Bool StepErr) → (X → Y) → IfErr r (λ why. X) → IfErr r (λ why. Y)
 err_map (Ok made) f x = tt

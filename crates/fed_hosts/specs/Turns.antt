@@ -96,9 +96,13 @@ pub record Waits (home : Home) (past : SitePast) (old new : SiteView) (made : Bo
   pub inquires : Inquires home past old new made
   pub others : new ≡ record old { lines = new.lines; empties = new.empties; idle = new.idle }
 
--- a site that is down starts again; one that is up takes the next packet, and where there is none it waits
+-- it takes the next packet, and where there is none it waits
+abbrev pub Listens : OwnPrograms → Home → SitePast → SiteView → SiteView → Bool → Type 0
+Listens programs home past old new made = Hears programs old new made ⊎ Waits home past old new made
+
+-- a site that is down starts again; one that is up listens
 abbrev pub IsTurn : SitePlan → SitePast → SiteView → SiteView → Bool → Type 0
-IsTurn plan past old new made = ((is_down past ≡ true) × Restarts old new made) ⊎ ((is_down past ≡ false) × (Hears plan.programs old new made ⊎ Waits plan.home past old new made))
+IsTurn plan past old new made = ((is_down past ≡ true) × Restarts old new made) ⊎ ((is_down past ≡ false) × Listens plan.programs plan.home past old new made)
 
 -- what a turn does behind the lines that the host has
 pub record DoesTurn (sites : List SitePlan) (old new : SiteView) (made : Bool) : Type 0 where

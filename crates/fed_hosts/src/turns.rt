@@ -8,7 +8,7 @@ ghost use Rattle.host_laws.specs.Plans.{most_lines};
 ghost use Rattle.fed_hosts.specs.Rooms.{HasRoom};
 ghost use Rattle.fed_hosts.specs.Serving.{HasFailed};
 ghost use Rattle.local_dbms.specs.Stands.{Each_site, Stands};
-ghost use Rattle.fed_hosts.specs.Turns.{HasTurned, Inquires, Restarts, Takes};
+ghost use Rattle.fed_hosts.specs.Turns.{HasTurned, Inquires, Listens, Restarts, Takes};
 ghost use Rattle.fed_hosts.specs.Views.{view_of};
 
 use crate::plans::Plan;
@@ -59,6 +59,21 @@ impl<E: LocalEngine, D: Disk> SiteActor<E, D> {
         if self.dbms.core().is_down() {
             return self.start::<N>();
         }
+        self.listen::<N>()
+    }
+
+    /// Takes the next message, or counts a turn that found none.
+    fn listen<N: Plan>(&mut self) -> Result<bool, StepErr>
+        requires told { IsTrue D.tells }
+        requires few { length self.old.lines.items < most_lines }
+        requires room { HasRoom self.old }
+        requires keeps { Keeps E.stands D.tells D.seen N.sites N.rings false self.old }
+        ensures keeps { IfOk result (λ _. Keeps E.stands D.tells D.seen N.sites N.rings false self.new) }
+        ensures listens { Each_site (Stands E.stands D.tells self.old.dbms (D.seen self.old.disk)) (λ home programs past.
+            is_down past ≡ false → IfOk result (Listens programs home past (view_of self.old false) (view_of self.new false))) }
+        ensures failed { IfErr result (HasFailed E.stands D.tells D.seen N.sites N.rings self.new) }
+        ensures same { IfErr result (λ _. view_of self.new false ≡ record (view_of self.old false) { empties = empty_count self.new.ends.inlet }) }
+    {
         match self.ends.inlet.next() {
             Some(packet) => self.hear::<N>(packet),
             None => self.inquire::<N>(),
