@@ -13,6 +13,7 @@ use frame_journal::{Format, Journal};
 use journal_disk::{Disk, Failed, JournalErr};
 use mdb_base::Memory;
 use std::alloc::Global;
+use std::mem::replace;
 
 /// A trip that is set: the actor stops right after so many further disk calls, 1 or more, with this cut.
 #[derive(Clone, Copy)]
@@ -282,7 +283,7 @@ impl<R: Drop, F: Format<R>> Store<R, F> {
         }
         match Journal::load(alloc, disk) {
             Ok(journal) => {
-                self.journal = journal;
+                drop(replace(&mut self.journal, journal));
                 Ok(())
             }
             Err(JournalErr::Failed) => Err(StepErr::Disk),

@@ -37,8 +37,10 @@ impl<P: TakePolicy> CoordCore<P> {
     {
         let entry = Some(CoordRecord::End { tid });
         let Ok(()) = room_for(&mut self.store, alloc, disk, &entry) else {
+            drop(entry);
             return Err(StepErr::Memory);
         };
+        drop(entry);
         match self.tables.ack(tid, site) {
             AckEnd::Ignored => Ok(silent(alloc, Answer::Ignored)),
             AckEnd::Acked => Ok(silent(alloc, Answer::Acked)),

@@ -32,10 +32,12 @@ impl<P: TakePolicy> CoordCore<P> {
         };
         let entry = CoordRecord::Checkpoint(sum);
         if is_large(&entry) {
+            drop(entry);
             return Ok(silent(alloc, Answer::Large));
         }
         let bytes = CoordJournal::frame_len(&entry);
         let Ok(()) = self.store.make_room(alloc, disk, 1, bytes) else {
+            drop(entry);
             return Err(StepErr::Memory);
         };
         match self.store.check(disk, entry) {

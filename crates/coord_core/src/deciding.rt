@@ -38,12 +38,18 @@ impl<P: TakePolicy> CoordCore<P> {
         ensures cause { HasCauseOf StepErr.Disk (D.seen disk.old).faults (D.seen disk.new).faults result }
     {
         let Ok(sends) = self.tables.decisions(alloc, tid, Decision::Abort) else {
+            drop(cause);
             return Err(StepErr::Memory);
         };
         let Ok(entry) = self.tables.abort_record(alloc, tid) else {
+            drop(cause);
+            drop(sends);
             return Err(StepErr::Memory);
         };
         let Ok(()) = room_for(&mut self.store, alloc, disk, &entry) else {
+            drop(cause);
+            drop(sends);
+            drop(entry);
             return Err(StepErr::Memory);
         };
         let first = entry.is_some();

@@ -76,8 +76,14 @@ impl<P: TakePolicy> CoordCore<P> {
             None => Ok(step),
             Some(entry) => match self.store.force(disk, entry) {
                 Ok(()) => Ok(step),
-                Err(Break::Stopped(kept)) => Ok(silent(alloc, Answer::Stopped(kept))),
-                Err(Break::Failed) => Err(StepErr::Disk),
+                Err(Break::Stopped(kept)) => {
+                    drop(step);
+                    Ok(silent(alloc, Answer::Stopped(kept)))
+                }
+                Err(Break::Failed) => {
+                    drop(step);
+                    Err(StepErr::Disk)
+                }
             },
         }
     }
@@ -105,8 +111,14 @@ impl<P: TakePolicy> CoordCore<P> {
     {
         match self.store.append(disk, entry) {
             Ok(()) => Ok(step),
-            Err(Break::Stopped(kept)) => Ok(silent(alloc, Answer::Stopped(kept))),
-            Err(Break::Failed) => Err(StepErr::Disk),
+            Err(Break::Stopped(kept)) => {
+                drop(step);
+                Ok(silent(alloc, Answer::Stopped(kept)))
+            }
+            Err(Break::Failed) => {
+                drop(step);
+                Err(StepErr::Disk)
+            }
         }
     }
 }

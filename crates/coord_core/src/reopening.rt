@@ -39,10 +39,17 @@ impl<P: TakePolicy> CoordCore<P> {
         ensures called { TakesCalls (reads (D.seen disk.old).size) (D.seen disk.old) (D.seen disk.new) result }
         ensures cause { HasCauseOf StepErr.Disk (D.seen disk.old).faults (D.seen disk.new).faults result }
     {
-        let tables = Tables::new(alloc)?;
         let _ = protocols.len();
         let store = CoordStore::found(alloc, disk)?;
-        let begun = begun_by(alloc, store.records())?;
+        let Ok(begun) = begun_by(alloc, store.records()) else {
+            drop(store);
+            return Err(StepErr::Memory);
+        };
+        let Ok(tables) = Tables::new(alloc) else {
+            drop(store);
+            drop(begun);
+            return Err(StepErr::Memory);
+        };
         Ok(CoordCore {
             protocols,
             policy,

@@ -125,9 +125,12 @@ impl<P: TakePolicy> CoordCore<P> {
         ensures cause { HasCauseOf StepErr.Disk (D.seen disk.old).faults (D.seen disk.new).faults result }
     {
         let Ok(sends) = send_dues(alloc, tid, dues) else {
+            drop(entry);
             return Err(StepErr::Memory);
         };
         let Ok(()) = room_for(&mut self.store, alloc, disk, &entry) else {
+            drop(sends);
+            drop(entry);
             return Err(StepErr::Memory);
         };
         self.tables.take_reply(tid, taken);

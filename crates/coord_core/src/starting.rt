@@ -51,8 +51,10 @@ impl<P: TakePolicy> CoordCore<P> {
             return Err(StepErr::Memory);
         };
         let Ok(()) = self.tables.restart(alloc, &sum) else {
+            drop(sum);
             return Err(StepErr::Memory);
         };
+        drop(sum);
         let known = self.tables.known.len() as u32;
         match self.store.open(disk) {
             Ok(()) => Ok(silent(alloc, Answer::UpCoord { known })),

@@ -96,6 +96,7 @@ impl<P: TakePolicy> CoordCore<P> {
             return Err(StepErr::Memory);
         };
         let Ok(recorded) = same_tickets(alloc, tickets) else {
+            drop(sends);
             return Err(StepErr::Memory);
         };
         let entry = Some(CoordRecord::Commit {
@@ -103,11 +104,21 @@ impl<P: TakePolicy> CoordCore<P> {
             tickets: recorded,
         });
         let Ok(()) = self.room_for_commit(alloc, disk, tid.tx, &entry) else {
+            drop(sends);
+            drop(entry);
             return Err(StepErr::Memory);
         };
         match self.try_tickets(alloc, disk, tid, tickets) {
-            Err(Memory) => Err(StepErr::Memory),
-            Ok(Verdict::Cycle(edges)) => self.abort(alloc, disk, tid, Cause::Cycle(edges)),
+            Err(Memory) => {
+                drop(sends);
+                drop(entry);
+                Err(StepErr::Memory)
+            }
+            Ok(Verdict::Cycle(edges)) => {
+                drop(sends);
+                drop(entry);
+                self.abort(alloc, disk, tid, Cause::Cycle(edges))
+            }
             Ok(Verdict::Added) => {
                 let forgets = self.tables.decide(tid, Decision::Commit, true);
                 self.tables.committed.add(tid);

@@ -67,8 +67,8 @@ note-requires-clause-in_range g c =
 pub note-requires-clause-payload : goal.note-requires-clause-payload
 note-requires-clause-payload g c = end_fits c.args.tid
 
-pub returns-clause-answered : goal.returns-clause-answered
-returns-clause-answered g c = map_ok _ _ c.note.result c.note.ensures.answered (λ ended each terms past k st.
+pub returns-in-Forgets-clause-answered : goal.returns-in-Forgets-clause-answered
+returns-in-Forgets-clause-answered g c = map_ok _ _ c.note.result c.note.ensures.answered (λ ended each terms past k st.
     let old = c.args.self.now in
     let core : CoordCore g.row.P.Denot = record old { tables = c.ack.new.self; store = c.room_for.new.store } in
     let s = serves g.P.TakePolicy.policy g.D.Disk.tells old terms past k.holds c.requires.up in
@@ -79,8 +79,8 @@ returns-clause-answered g c = map_ok _ _ c.note.result c.note.ensures.answered (
     k s (up_is g.P.TakePolicy.policy g.D.Disk.tells old terms past k.holds c.requires.up) st (sym c.in-Forgets.is ∙ c.ack.ensures.end) tables c.silent-step.ensures.answer c.silent-step.ensures.sends
     (from_kept k.stored (c.room_for.ensures.keeps _ _ _ k.stored.behind)) refl refl refl)))
 
-pub returns-clause-failed : goal.returns-clause-failed
-returns-clause-failed g c = map_err _ _ c.note.result c.note.ensures.failed (λ why each terms past k st.
+pub returns-in-Forgets-clause-failed : goal.returns-in-Forgets-clause-failed
+returns-in-Forgets-clause-failed g c = map_err _ _ c.note.result c.note.ensures.failed (λ why each terms past k st.
     let old = c.args.self.now in
     let core : CoordCore g.row.P.Denot = record old { tables = c.ack.new.self; store = c.room_for.new.store } in
     let s = serves g.P.TakePolicy.policy g.D.Disk.tells old terms past k.holds c.requires.up in

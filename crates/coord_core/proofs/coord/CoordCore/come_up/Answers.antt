@@ -57,8 +57,8 @@ returns-in-Err-Stopped-clause-answered g c = λ terms past k can.
     n count refl refl refl c.silent-in-Err-Stopped.result c.in-Err-Stopped.kept ends c.in-Err-Stopped.ensures.down c.silent-in-Err-Stopped.ensures.answer c.silent-in-Err-Stopped.ensures.sends
     (uncounted (stored old.store)) stop
 
-pub returns-clause-failed : goal.returns-clause-failed
-returns-clause-failed g c = λ terms past k can.
+pub returns-in-Err-Failed-clause-failed : goal.returns-in-Err-Failed-clause-failed
+returns-in-Err-Failed-clause-failed g c = λ terms past k can.
     let old = c.args.self.now in
     let is = sum_is g.P.TakePolicy.policy old terms past c.records.result.now c.in-Ok.sum k.holds c.records.ensures c.in-Ok.ensures in
     let begins = subst (λ (s : CoordSum). BeginWith s c.restart.new.self) is c.in-Ok-restart.ensures in

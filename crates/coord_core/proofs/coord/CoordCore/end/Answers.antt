@@ -24,8 +24,8 @@ returns-in-Err-Stopped-clause-answered g c = λ terms past event x p.
     pending_stopped g.P.TakePolicy.policy g.D.Disk.tells (Append c.in-Some.entry ∷ Sync ∷ []) c.args.step c.args.self.now (record c.args.self.now { store = c.force.new.self }) (g.D.Disk.seen c.args.disk.now) (g.D.Disk.seen c.force.new.disk)
     terms past event x q refl refl refl refl c.silent.result c.in-Err-Stopped.kept ends c.in-Err-Stopped.ensures.down c.silent.ensures.answer c.silent.ensures.sends refl stop
 
-pub returns-clause-failed : goal.returns-clause-failed
-returns-clause-failed g c = λ terms past event x p.
+pub returns-in-Err-Failed-clause-failed : goal.returns-in-Err-Failed-clause-failed
+returns-in-Err-Failed-clause-failed g c = λ terms past event x p.
     let q = rw c.in-Some.is at p in
     let told = rw c.in-Err-Failed.field-0-is at (c.in-Err-Failed.ensures.ends _ _ _ q.ready.stored.behind) in
     let ends = from_failed q.ready.stored told in

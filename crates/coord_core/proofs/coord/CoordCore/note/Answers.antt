@@ -31,8 +31,8 @@ returns-in-Err-Stopped-clause-answered g c = λ terms past event x p.
     pending_stopped g.P.TakePolicy.policy g.D.Disk.tells (Append c.args.entry ∷ []) c.args.step c.args.self.now (record c.args.self.now { store = c.append.new.self }) before after
     terms past event x p refl refl refl refl c.silent.result c.in-Err-Stopped.kept ends c.in-Err-Stopped.ensures.down c.silent.ensures.answer c.silent.ensures.sends refl stop
 
-pub returns-clause-failed : goal.returns-clause-failed
-returns-clause-failed g c = λ terms past event x p.
+pub returns-in-Err-Failed-clause-failed : goal.returns-in-Err-Failed-clause-failed
+returns-in-Err-Failed-clause-failed g c = λ terms past event x p.
     let told = rw c.in-Err-Failed.field-0-is at (c.in-Err-Failed.ensures.ends _ _ _ p.ready.stored.behind) in
     let ends = from_failed p.ready.stored told in
     let few = at_most 1 1 (g.D.Disk.seen c.args.disk.now) (g.D.Disk.seen c.append.new.disk) (omega arith) c.append.ensures.called in

@@ -29,24 +29,29 @@ begun_by-requires g c =
 
 pub returns-in_err-store-clause-cause : goal.returns-in_err-store-clause-cause
 returns-in_err-store-clause-cause g c =
-    cause_on (g.D.Disk.seen c.args.disk.now).faults (g.D.Disk.seen c.found.new.disk).faults c.from_residual-in_err-store.result c.in_err-store.field-0.0 c.from_residual-in_err-store.ensures c.in_err-store.ensures.cause
+    cause_on (g.D.Disk.seen c.args.disk.now).faults (g.D.Disk.seen c.found.new.disk).faults c.from_residual.result c.in_err-store.field-0.0 c.from_residual.ensures c.in_err-store.ensures.cause
 
 pub returns-in_err-store-clause-called : goal.returns-in_err-store-clause-called
 returns-in_err-store-clause-called g c =
     let before = g.D.Disk.seen c.args.disk.now in
-    takes_failed (reads before.size) before (g.D.Disk.seen c.found.new.disk) c.from_residual-in_err-store.result c.from_residual-in_err-store.ensures.0 c.in_err-store.ensures.called.failed
+    takes_failed (reads before.size) before (g.D.Disk.seen c.found.new.disk) c.from_residual.result c.from_residual.ensures.0 c.in_err-store.ensures.called.failed
 
-pub returns-in_err-begun-clause-called : goal.returns-in_err-begun-clause-called
-returns-in_err-begun-clause-called g c =
+pub returns-in_default-clause-called : goal.returns-in_default-clause-called
+returns-in_default-clause-called g c =
     let before = g.D.Disk.seen c.args.disk.now in
-    let after = g.D.Disk.seen c.found.new.disk in
-    let few = at_most (reads before.size) (reads before.size) before after (omega arith) c.in_ok-store.ensures.called.done in
-    takes_failed (reads before.size) before after c.from_residual-in_err-begun.result c.from_residual-in_err-begun.ensures.0 few
+    let few = at_most (reads before.size) (reads before.size) before (g.D.Disk.seen c.found.new.disk) (omega arith) c.in_ok-store.ensures.called.done in
+    record { done = tt; failed = few }
+
+pub returns-in_default-new-clause-called : goal.returns-in_default-new-clause-called
+returns-in_default-new-clause-called g c =
+    let before = g.D.Disk.seen c.args.disk.now in
+    let few = at_most (reads before.size) (reads before.size) before (g.D.Disk.seen c.found.new.disk) (omega arith) c.in_ok-store.ensures.called.done in
+    record { done = tt; failed = few }
 
 pub returns-clause-stands : goal.returns-clause-stands
 returns-clause-stands g c journal f =
     let o = disk_found _ journal f.stands in
     let kept = found_kept c.in_ok-store.store c.args.protocols journal o.0 (c.in_ok-store.ensures.keeps o.0 (found_disk journal) o.1) in
     stands_opened (g.D.Disk.seen c.args.disk.now).image c.args.protocols journal c.len.ensures.rising f g.P.TakePolicy.policy g.D.Disk.tells
-    (record { protocols = c.args.protocols; policy = c.args.policy; tables = c.in_ok-tables.tables; begun = c.in_ok-begun.begun; store = c.in_ok-store.store }) (g.D.Disk.seen c.found.new.disk)
-    c.requires.sites refl kept c.in_ok-store.ensures.down (λ tx. c.in_ok-begun.ensures tx ∙ ap (found_attempts tx) c.records.ensures)
+    (record { protocols = c.args.protocols; policy = c.args.policy; tables = c.in-Ok-new.tables; begun = c.in-Ok.begun; store = c.in_ok-store.store }) (g.D.Disk.seen c.found.new.disk)
+    c.requires.sites refl kept c.in_ok-store.ensures.down (λ tx. c.in-Ok.ensures tx ∙ ap (found_attempts tx) c.records.ensures)
