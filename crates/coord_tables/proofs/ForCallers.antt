@@ -16,7 +16,6 @@ pub use Rattle.coord_tables.proofs.Lates.{late_aborting, late_idle}
 pub use Rattle.coord_tables.proofs.Lines.{IsAsBefore, IsCalm, elsewhere, known_stays, live_stays, sent_as}
 pub use Rattle.coord_tables.proofs.Listings.{rising_listed, sorted_rising}
 pub use Rattle.coord_tables.proofs.OneActive.{nothing_alone, opened_alone}
-pub use Rattle.coord_tables.proofs.Outcomes.{on_err}
 pub use Rattle.coord_tables.proofs.Phases.{open_begun, others_are, sites_of_found, stage_there}
 pub use Rattle.coord_tables.proofs.Sent.{initiates_is, prints_calm, says_calm, sent_is, sent_line, sent_tables}
 pub use Rattle.coord_tables.proofs.Serving.{attempts_same, range_same, serving_calm, sound_more, stages_stay}

@@ -19,7 +19,6 @@ mod Lines
 mod Listings
 mod Noting
 mod OneActive
-mod Outcomes
 mod Outflow
 mod Own
 mod Phases
