@@ -1,3 +1,0 @@
-mod NumberedGraphs
-mod TwoSites
-mod RisingOrders

@@ -1,5 +1,5 @@
-//! Tests of parts of the actors: the coordinator's progress, its table of protocols and its ticket graph, the Sums of journals, and disks in
-//! memory. They use public calls alone, so they stand in a crate of their own.
+//! Tests of the parts of the actors, each once, with values from outside. They use public calls alone, so they stand
+//! in a crate of their own.
 #![tactic(auto)]
 
 #[cfg(test)]
@@ -7,13 +7,13 @@ mod attempts;
 #[cfg(test)]
 mod graph;
 #[cfg(test)]
+mod names;
+#[cfg(test)]
 mod orders;
 #[cfg(test)]
 mod policies;
 #[cfg(test)]
 mod prepared;
-#[cfg(test)]
-mod presumed;
 #[cfg(test)]
 mod protocols;
 #[cfg(test)]
