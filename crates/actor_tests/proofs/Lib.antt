@@ -1,4 +1,3 @@
-mod GlobalSessions
-mod LocalSessions
+mod OfLines
+mod OfThree
 mod Reopened
-mod SiteSessions

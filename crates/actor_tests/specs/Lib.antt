@@ -1,3 +1,2 @@
-pub mod GlobalSessions
-pub mod LocalSessions
-pub mod SiteSessions
+pub mod OfLines
+pub mod OfThree

@@ -1,13 +1,14 @@
-//! Tests of the actors: what the core of a site, a local database system and a coordinator answer in whole sessions, on disks in memory.
+//! Tests of the actors where no session of a federation comes: one goes on behind a failed disk call, and a coordinator is reopened beside the one
+//! that went on. They use public calls alone, on disks in memory.
 #![tactic(auto)]
 
 #[cfg(test)]
-mod answers;
+mod coordinator;
 #[cfg(test)]
-mod global_sessions;
+mod coordinator_again;
 #[cfg(test)]
-mod local_sessions;
+mod coordinator_reopened;
 #[cfg(test)]
-mod messages;
+mod site;
 #[cfg(test)]
-mod site_sessions;
+mod site_again;
