@@ -16,7 +16,7 @@ use Rattle.engine_contract.specs.Calls.{SealsRun}
 use Rattle.engine_tests.specs.declared.stage.Stage.{Stage}
 use Rattle.engine_tests.specs.declared.stage.Stage.TheVariants.{Sealed}
 use Rattle.engine_tests.specs.declared.stage.Note.{Note}
-use Rattle.engine_tests.specs.Stages.{Agrees, noted, stage_of, live, acted, sealed_note}
+use Rattle.engine_tests.specs.Stages.{Agrees, noted, stage_of, live, acted}
 
 -- a note of what a line leaves of its attempt agrees with the lines behind it
 next : (notes : List Note) (start : Start) (older : List EngineLine) (line : EngineLine) (stage : Stage) →
@@ -82,17 +82,3 @@ seals_agree {notes} {most} {last} {start} {older} agrees tid handed h given =
       counter = omega arith;
       published = omega arith;
     }
-
--- the notes of transactions in doubt tell that each is sealed
-restored_stages : (doubtful : List Kept) (u : Tid) → stage_of (restored_at doubtful u) ≡ noted (map sealed_note doubtful) u
-restored_stages [] u = refl
-restored_stages (kept ∷ more) u = by_name (same_tid kept.tid u) (restored_stages more u)
-  where
-    by_name : (b : Bool) → stage_of (restored_at more u) ≡ noted (map sealed_note more) u →
-        stage_of (cond b (Some (restored kept)) (restored_at more u)) ≡ cond b Sealed (noted (map sealed_note more) u)
-    by_name true rest = refl
-    by_name false rest = rest
-
--- so they agree with the start
-pub restart_agrees : (start : Start) → Agrees (map sealed_note start.doubtful) start.counter start.published start []
-restart_agrees start = record { stages = restored_stages start.doubtful; counter = omega arith; published = omega arith }

@@ -1,2 +1,1 @@
 mod Agreement
-mod Starting

@@ -4,7 +4,6 @@ use Rattle.mdb_base.specs.declared.names.Tid.{Tid}
 use Rattle.mdb_base.specs.declared.replies.Reply.{Reply}
 use Rattle.mdb_base.specs.declared.replies.Reply.TheVariants as Reply_is
 use Rattle.mdb_base.specs.Names.{same_tid}
-use Rattle.fed_rules.specs.declared.runs.Kept.{Kept}
 use Rattle.fed_rules.specs.Runs.{Start, EngineLine, Run, run_at, is_sealed, has_ticket, counter, published}
 use Rattle.engine_tests.specs.declared.stage.Stage.{Stage}
 use Rattle.engine_tests.specs.declared.stage.Stage.TheVariants.{Free, Live, Ticketed, Sealed}
@@ -43,10 +42,6 @@ stage_of (Some run) = cond (is_sealed run) Sealed (cond (has_ticket run) Tickete
 abbrev pub noted : List Note → Tid → Stage
 noted [] tid = Free
 noted (note ∷ older) tid = cond (same_tid note.tid tid) note.stage (noted older tid)
-
--- the note of a transaction in doubt
-abbrev pub sealed_note : Kept → Note
-sealed_note kept = record { tid = kept.tid; stage = Sealed }
 
 -- what an answered access leaves of a stage
 abbrev pub acted : Reply → Stage → Stage

@@ -1,19 +1,42 @@
 //! An engine whose runs are noted beside it, so that each call is made only where it may come.
-ghost use Rattle.std.specs.Prelude.{◌≡◌, ◌∷◌, IfOk, OnOk, IfErr, map};
-ghost use Rattle.fed_rules.specs.Runs.{Begins, Acts, Seals};
-ghost use Rattle.engine_contract.specs.Past.{SomePast, AddsLine, EachPast};
-ghost use Rattle.engine_contract.specs.Calls.{CanBegin, CanAct, CanSeal, SealsRun, FailsToSeal};
-ghost use Rattle.engine_tests.specs.Stages.{Agrees, IsFresh, noted, free, live, ticketless, sealed, acted, took, sealed_note};
+ghost use Rattle.std.specs.Prelude.{◌≡◌, ◌∷◌, IfOk, OnOk};
+ghost use Rattle.fed_rules.specs.Runs.{Acts};
+ghost use Rattle.engine_contract.specs.Past.{SomePast, AddsLine};
+ghost use Rattle.engine_contract.specs.Calls.{CanAct};
+ghost use Rattle.engine_tests.specs.Stages.{Agrees, IsFresh, noted, free, live, ticketless, sealed, acted, took};
 
-use crate::call::{Answer, Call, Made};
-use crate::may_start::may_start;
 use crate::stage::{Note, Stage};
-use engine_contract::{Kept, LocalEngine, SealErr, Sealed, begin_again, seal_again};
-use mdb_base::{Memory, PlainAct, Puts, Reply, Tid};
-use run_book::Counters;
+use engine_contract::{LocalEngine, SealErr, begin_again, seal_again};
+use mdb_base::{Memory, PlainAct, Puts, Reply, Tid, Why};
 use std::alloc::Global;
 use std::process::Abort;
 use std::test::Fail;
+
+/// A call for an attempt.
+#[derive(Clone, Copy)]
+pub enum Call {
+    /// It is taken back once.
+    Begin,
+    Access(PlainAct),
+    Take,
+    /// It is taken back once.
+    Seal,
+    Commit,
+    Abort,
+}
+
+/// What a call answers.
+#[derive(Clone, Copy, PartialEq, Eq)]
+pub enum Answer {
+    /// The number of a begin.
+    Number(u64),
+    Says(Reply),
+    /// The serial number of a sealing and its ticket.
+    Sealed(u64, Option<u64>),
+    /// Why a sealing is refused.
+    Refused(Why),
+    Ended,
+}
 
 impl Stage {
     fn is_free(self) -> bool
@@ -81,37 +104,6 @@ fn add_note(notes: &mut Vec<Note>, tid: Tid, stage: Stage) -> Result<(), Memory>
     Ok(())
 }
 
-/// The notes of an epoch that starts with these in doubt, which are sealed.
-fn sealed_notes(alloc: Global, doubtful: &[Kept]) -> Result<Vec<Note>, Memory>
-    ensures { IfOk result (λ notes. notes.items ≡ map sealed_note doubtful.now) }
-{
-    let mut notes = Vec::new(alloc);
-    for kept in doubtful {
-        notes.push(Note {
-            tid: kept.tid,
-            stage: Stage::Sealed,
-        })?;
-    }
-    Ok(notes)
-}
-
-/// Begins a run, where the begin is taken back once or not.
-fn begin<E: LocalEngine>(
-    engine: &mut E,
-    alloc: Global,
-    tid: Tid,
-    again: bool,
-) -> Result<u64, Memory>
-    requires { SomePast E.stands engine.old (CanBegin tid) }
-    ensures { IfOk result (λ n. AddsLine E.stands engine.old (Begins tid n) engine.new) }
-{
-    if again {
-        begin_again(engine, alloc, tid)
-    } else {
-        engine.begin(alloc, tid)
-    }
-}
-
 /// Reads or writes for a live run.
 fn access<E: LocalEngine>(
     engine: &mut E,
@@ -125,25 +117,6 @@ fn access<E: LocalEngine>(
     match act {
         PlainAct::Read(key) => engine.read(alloc, tid, key),
         PlainAct::Write(key, value) => engine.write(alloc, tid, key, value),
-    }
-}
-
-/// Seals a run, where the sealing is taken back once or not.
-fn seal<E: LocalEngine>(
-    engine: &mut E,
-    alloc: Global,
-    tid: Tid,
-    again: bool,
-) -> Result<Sealed, SealErr>
-    requires { SomePast E.stands engine.old (CanSeal tid) }
-    ensures sealed { IfOk result (λ s. AddsLine E.stands engine.old (Seals tid s.number) engine.new) }
-    ensures given { IfOk result (λ s. EachPast E.stands engine.old (SealsRun tid s)) }
-    ensures failed { IfErr result (λ e. FailsToSeal E.stands engine.old tid e engine.new) }
-{
-    if again {
-        seal_again(engine, alloc, tid)
-    } else {
-        engine.seal(alloc, tid)
     }
 }
 
@@ -176,17 +149,17 @@ impl<E: LocalEngine> Watched<E> {
         stage_in(self.notes.as_slice(), tid)
     }
 
-    fn begin(&mut self, rt: &impl Abort, alloc: Global, tid: Tid, again: bool) -> Result<Made, Fail>
+    fn begin(&mut self, rt: &impl Abort, alloc: Global, tid: Tid) -> Result<Answer, Fail>
         requires { SomePast E.stands self.old.engine (Agrees self.old.notes.items self.old.counter self.old.published) }
         ensures { OnOk result (SomePast E.stands self.new.engine
             (Agrees self.new.notes.items self.new.counter self.new.published)) }
     {
         assert!(rt; self.stage(tid).is_free());
         assert!(rt; self.counter < 1_000_000);
-        let number = begin(&mut self.engine, alloc, tid, again)?;
+        let number = begin_again(&mut self.engine, alloc, tid)?;
         add_note(&mut self.notes, tid, Stage::Live)?;
         self.counter = self.counter.max(number);
-        Ok(Made::only(Answer::Number(number)))
+        Ok(Answer::Number(number))
     }
 
     fn access(
@@ -195,7 +168,7 @@ impl<E: LocalEngine> Watched<E> {
         alloc: Global,
         tid: Tid,
         act: PlainAct,
-    ) -> Result<Made, Fail>
+    ) -> Result<Answer, Fail>
         requires { SomePast E.stands self.old.engine (Agrees self.old.notes.items self.old.counter self.old.published) }
         ensures { OnOk result (SomePast E.stands self.new.engine
             (Agrees self.new.notes.items self.new.counter self.new.published)) }
@@ -204,10 +177,10 @@ impl<E: LocalEngine> Watched<E> {
         assert!(rt; stage.is_live());
         let reply = access(&mut self.engine, alloc, tid, act)?;
         add_note(&mut self.notes, tid, stage.acted(reply))?;
-        Ok(Made::only(Answer::Reply(reply)))
+        Ok(Answer::Says(reply))
     }
 
-    fn take(&mut self, rt: &impl Abort, alloc: Global, tid: Tid) -> Result<Made, Fail>
+    fn take(&mut self, rt: &impl Abort, alloc: Global, tid: Tid) -> Result<Answer, Fail>
         requires { SomePast E.stands self.old.engine (Agrees self.old.notes.items self.old.counter self.old.published) }
         ensures { OnOk result (SomePast E.stands self.new.engine
             (Agrees self.new.notes.items self.new.counter self.new.published)) }
@@ -217,35 +190,32 @@ impl<E: LocalEngine> Watched<E> {
         assert!(rt; self.published < 1_000_000);
         let reply = self.engine.take(alloc, tid)?;
         add_note(&mut self.notes, tid, stage.took(reply))?;
-        Ok(Made::only(Answer::Reply(reply)))
+        Ok(Answer::Says(reply))
     }
 
-    fn seal(&mut self, rt: &impl Abort, alloc: Global, tid: Tid, again: bool) -> Result<Made, Fail>
+    fn seal(&mut self, rt: &impl Abort, alloc: Global, tid: Tid) -> Result<Answer, Fail>
         requires { SomePast E.stands self.old.engine (Agrees self.old.notes.items self.old.counter self.old.published) }
         ensures { OnOk result (SomePast E.stands self.new.engine
             (Agrees self.new.notes.items self.new.counter self.new.published)) }
     {
         assert!(rt; self.stage(tid).is_live());
         assert!(rt; self.counter < 1_000_000);
-        match seal(&mut self.engine, alloc, tid, again) {
+        match seal_again(&mut self.engine, alloc, tid) {
             Ok(sealed) => {
                 add_note(&mut self.notes, tid, Stage::Sealed)?;
                 self.counter = self.counter.max(sealed.number);
                 self.published = self.published.max(sealed.ticket.unwrap_or(0));
-                Ok(Made {
-                    answer: Answer::Sealed(sealed.number, sealed.ticket),
-                    writes: Some(sealed.writes),
-                })
+                Ok(Answer::Sealed(sealed.number, sealed.ticket))
             }
             Err(SealErr::Refused(why)) => {
                 add_note(&mut self.notes, tid, Stage::Free)?;
-                Ok(Made::only(Answer::Refused(why)))
+                Ok(Answer::Refused(why))
             }
             Err(SealErr::Memory) => Err(Fail::from(Memory)),
         }
     }
 
-    fn commit(&mut self, rt: &impl Abort, tid: Tid) -> Result<Made, Fail>
+    fn commit(&mut self, rt: &impl Abort, tid: Tid) -> Result<Answer, Fail>
         requires { SomePast E.stands self.old.engine (Agrees self.old.notes.items self.old.counter self.old.published) }
         ensures { OnOk result (SomePast E.stands self.new.engine
             (Agrees self.new.notes.items self.new.counter self.new.published)) }
@@ -253,10 +223,10 @@ impl<E: LocalEngine> Watched<E> {
         assert!(rt; self.stage(tid).is_sealed());
         self.engine.commit(tid);
         add_note(&mut self.notes, tid, Stage::Free)?;
-        Ok(Made::only(Answer::Ended))
+        Ok(Answer::Ended)
     }
 
-    fn abort(&mut self, rt: &impl Abort, tid: Tid) -> Result<Made, Fail>
+    fn abort(&mut self, rt: &impl Abort, tid: Tid) -> Result<Answer, Fail>
         requires { SomePast E.stands self.old.engine (Agrees self.old.notes.items self.old.counter self.old.published) }
         ensures { OnOk result (SomePast E.stands self.new.engine
             (Agrees self.new.notes.items self.new.counter self.new.published)) }
@@ -264,7 +234,7 @@ impl<E: LocalEngine> Watched<E> {
         assert!(rt; !self.stage(tid).is_free());
         self.engine.abort(tid);
         add_note(&mut self.notes, tid, Stage::Free)?;
-        Ok(Made::only(Answer::Ended))
+        Ok(Answer::Ended)
     }
 
     /// Makes a call for the attempt.
@@ -274,50 +244,22 @@ impl<E: LocalEngine> Watched<E> {
         alloc: Global,
         tid: Tid,
         call: Call,
-    ) -> Result<Made, Fail>
+    ) -> Result<Answer, Fail>
         requires { SomePast E.stands self.old.engine (Agrees self.old.notes.items self.old.counter self.old.published) }
         ensures { OnOk result (SomePast E.stands self.new.engine
             (Agrees self.new.notes.items self.new.counter self.new.published)) }
     {
         match call {
-            Call::Begin => self.begin(rt, alloc, tid, false),
-            Call::BeginAgain => self.begin(rt, alloc, tid, true),
+            Call::Begin => self.begin(rt, alloc, tid),
             Call::Access(act) => self.access(rt, alloc, tid, act),
             Call::Take => self.take(rt, alloc, tid),
-            Call::Seal => self.seal(rt, alloc, tid, false),
-            Call::SealAgain => self.seal(rt, alloc, tid, true),
+            Call::Seal => self.seal(rt, alloc, tid),
             Call::Commit => self.commit(rt, tid),
             Call::Abort => self.abort(rt, tid),
         }
     }
 
-    /// Starts an epoch with these rows, these in doubt and these numbers.
-    pub fn restart(
-        &mut self,
-        rt: &impl Abort,
-        alloc: Global,
-        rows: &Puts,
-        doubtful: &[Kept],
-        counters: Counters,
-    ) -> Result<(), Fail>
-        requires { SomePast E.stands self.old.engine (Agrees self.old.notes.items self.old.counter self.old.published) }
-        ensures { OnOk result (SomePast E.stands self.new.engine
-            (Agrees self.new.notes.items self.new.counter self.new.published)) }
-    {
-        let Counters {
-            counter,
-            published,
-            owner,
-        } = counters;
-        assert!(rt; may_start(doubtful, counter, published));
-        self.engine
-            .restart(alloc, rows, doubtful, counter, published, owner)?;
-        self.notes = sealed_notes(alloc, doubtful)?;
-        self.counter = counter;
-        self.published = published;
-        Ok(())
-    }
-
+    /// The table.
     pub fn rows(&self, alloc: Global) -> Result<Puts, Memory> {
         self.engine.rows(alloc)
     }
