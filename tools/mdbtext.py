@@ -100,10 +100,9 @@ class Session:
 
     def act(self, word, whole):
         """Checks the form of an act, and answers a call that gives it, with its numbers checked."""
-        name, _, rest = word.partition(":")
-        fields = rest.split(":")
-        highest = {"get": (65535,), "set": (65535, 2**64 - 1), "add": (65535, 31, 2**64 - 1)}.get(name, ())
-        if len(fields) != len(highest):
+        name, *fields = word.split(":")
+        highest = {"get": (65535,), "set": (65535, 2**64 - 1), "add": (65535, 31, 2**64 - 1)}.get(name)
+        if highest is None or len(fields) != len(highest):
             raise Bad("spelling", whole)
 
         def numbers():
@@ -279,3 +278,19 @@ def read_session(data, with_commands=True):
         except Bad as why:
             raise BadLine(number, why.reason, why.word) from None
     return session
+
+
+def place_of_printed(data):
+    """Where the line `printed` begins in an input of `audit`, or None."""
+    if data.startswith(b"printed\n"):
+        return 0
+    place = data.find(b"\nprinted\n")
+    return None if place < 0 else place + 1
+
+
+def read_audited(data):
+    """The scenario of an input of `audit`, and the lines behind `printed` (without a line `printed` None), or the first bad line."""
+    place = place_of_printed(data)
+    if place is None:
+        return read_session(data, False), None
+    return read_session(data[:place], False), data[place + len(b"printed\n") :].split(b"\n")[:-1]
