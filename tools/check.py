@@ -7,7 +7,8 @@
   why.py       finds nothing wrong in them, finds each kind of bad line in a text that has it, and says what files of other kinds are
   due.py       shows the line that is due, with a stand-in for the program
   made.py      prints examples/made.run again
-  journal.py   finds the damaged frame of each damaged journal, and no other, and nobody in doubt behind a start
+  journal.py   finds the damaged frame of each damaged journal, and no other, and nobody in doubt behind a start; names the
+               files to doubt where journals contradict each other, and none of journals that a session leaves
 
 The status is 0 where all is so. tools/examples.sh runs this first.
 
@@ -27,6 +28,7 @@ import mdbtext
 import standing
 import to_json
 import why
+from check_folders import check_doubts
 from check_inputs import check_due, check_why
 from mdbchecks import TOP, Fault, called, require
 
@@ -136,7 +138,7 @@ def main():
     try:
         for session in sessions:
             check_session(session)
-        for check in (check_calls, check_bad_texts, check_due, check_why, check_made, check_journals):
+        for check in (check_calls, check_bad_texts, check_due, check_why, check_made, check_journals, check_doubts):
             check()
     except Fault as why:
         sys.exit(f"check.py: {why}")

@@ -1,11 +1,16 @@
 #!/usr/bin/env python3
-"""Prints the journals of a folder record by record, says where a torn or damaged frame stands, and who is in doubt.
+"""Prints the journals of a folder record by record, says where a torn or damaged frame stands, who is in doubt, and which file to doubt.
 
 The folder has the files disk0 (the coordinator) to disk8 (site 8), each with the bytes of a journal (docs/FORMATS.md, section 4). A file
 that is missing or empty is an unused disk. A torn rest at the end is what a stop left: the next start cuts it back. A damaged frame is none
 that a stop can leave. A site is in doubt of an attempt that is Prepared without an Ended behind it.
 
-The status is 0 where each journal could be read, and 1 where a frame is damaged.
+The journals are checked against each other. What was forced before others were told of it is still there, so a commit at one site and an
+abort or nothing at another, a coordinator's disk that is older than a site's, and a site that was restored from an older copy show, and the
+file to doubt is named. `mdbfed resume` sees less of this, for it looks at each journal by itself. An older copy that lacks only what nobody
+else was told of isn't seen by either.
+
+The status is 0 where each journal could be read and none is to doubt, and 1 where a frame is damaged or a file is to doubt.
 
 example: tools/journal.py FOLDER
 """
@@ -13,6 +18,7 @@ import argparse
 import pathlib
 import sys
 
+import mdbcross
 from mdbjournal import COORDINATOR, SITE, Journal, doubtful, still_open
 from mdbtext import Wrong, told
 
@@ -75,7 +81,7 @@ def coordinator_lines(journal):
 
 
 def report(number, data):
-    """The lines to print of one disk, and whether a frame of it is damaged."""
+    """Prints one disk, and answers its records, or None where a frame of it is damaged."""
     name = f"site {number}" if number else "coordinator"
     journal = Journal(data, SITE if number else COORDINATOR)
     print(f"disk{number} ({name}): {len(data)} bytes, {len(journal.records)} records")
@@ -85,7 +91,7 @@ def report(number, data):
         print(line)
     for line in site_lines(journal) if number else coordinator_lines(journal):
         print(line)
-    return journal.damaged is not None
+    return None if journal.damaged else journal.records
 
 
 def main():
@@ -98,10 +104,13 @@ def main():
     present = {number: file.read_bytes() for number, file in files.items() if file.exists()}
     if not present:
         raise Wrong(f"{folder}: none of the files disk0 to disk8 is there")
-    damaged = [report(number, data) for number, data in present.items() if data]
-    if not damaged:
+    records = {number: report(number, present[number]) if present.get(number) else [] for number in files}
+    if not any(present.values()):
         print("all disks are empty")
-    sys.exit(1 if any(damaged) else 0)
+    doubts = mdbcross.doubts(records)
+    for number, why in doubts:
+        print(f"doubt disk{number}: {why}")
+    sys.exit(1 if doubts or None in records.values() else 0)
 
 
 if __name__ == "__main__":
