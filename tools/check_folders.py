@@ -4,7 +4,7 @@ import pathlib
 import tempfile
 
 import mdbcross
-from mdbchecks import TOP, called_with, require, told_by
+from mdbchecks import TOP, called_closed, called_with, require, told_by
 from mdbjournal import COORDINATOR, SITE, Journal
 
 NOTHING, ABORT, COMMIT = range(1, 4)
@@ -162,6 +162,7 @@ def check_printed_doubts():
                 (room / f"disk{number}").write_bytes(data)
             said = called_with(int(bool(wanted)), "journal.py", room).splitlines()
             require([it for it in said if "doubt disk" in it] == [f"doubt disk{number}: {why}" for number, why in wanted], f"journal.py: {said}")
+        called_closed("journal.py", room)
         (room / "disk0").unlink()
         require("doubt disk0: " + NO_COMMIT.format(1) in called_with(1, "journal.py", room), "journal.py: no coordinator")
         (room / "disk3").mkdir()

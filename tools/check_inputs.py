@@ -5,7 +5,7 @@ import tempfile
 import due
 import mdbtext
 import why
-from mdbchecks import TOP, called_with, require, told_by
+from mdbchecks import TOP, called_closed, called_with, require, told_by
 
 SITE = "site 1 locking abort\n"
 # A program in place of `mdbfed`: it keeps its input, and prints what is written for its word.
@@ -42,6 +42,8 @@ def check_due():
     session, output = ((TOP / "examples" / name).read_text() for name in ("transfer.fed", "transfer.out"))
     scenario, commands = session.split("commands\n")
     titles, first = due.titles(), scenario.count("\n") + 2
+    named = [numbers for _, numbers in due.SECTIONS] + list(due.OF_REPORT.values())
+    require({it for numbers in named for it in numbers} <= set(titles), "due.py: a section that docs/RULES.md hasn't")
     with tempfile.TemporaryDirectory() as folder:
         room = pathlib.Path(folder)
         for number, stands, what, wanted, sections in DUE:
@@ -67,6 +69,7 @@ def check_other_ends_of_due(room, scenario, output, first):
     require(said.splitlines()[1:3] == ["  stands: end", "  due:    (no line)"], f"due.py: {said}")
     for path, wanted in (("transfer.fed", "it is an input of `replay`"), ("transfer.out", "it is an output of `replay`"), ("", "Is a directory")):
         require(wanted in told_by("due.py", TOP / "examples" / path), f"due.py: {path}")
+    called_closed("due.py", room / "audited", "--program", room / "program")
     require("No such file" in told_by("due.py", room / "audited", "--program", room / "nothing"), "due.py: no program")
     require("status 1" in told_by("due.py", room / "audited", "--program", "false"), "due.py: a program that fails")
 
@@ -106,6 +109,8 @@ def check_why():
             path.write_bytes(text.encode())
             said = called_with(status, "why.py", path)
             require(said.startswith(f"{path}: ") and wanted in said, f"why.py: {text!r}: {said}")
+    for name in ("transfer.fed", "transfer.out"):
+        called_closed("why.py", TOP / "examples" / name)
     for output in sorted((TOP / "conformance/audit").glob("*.stdout")):
         check_audited(output.with_suffix("").read_bytes(), output)
 

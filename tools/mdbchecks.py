@@ -1,4 +1,5 @@
 """How the checks of the tools call them and say what is wrong. The files check.py and check_*.py share it."""
+import os
 import pathlib
 import subprocess
 import sys
@@ -39,3 +40,14 @@ def told_by(tool, *words):
     ran = subprocess.run(line, stdout=subprocess.PIPE, stderr=subprocess.PIPE, universal_newlines=True, check=False)
     require((ran.returncode, ran.stdout) == (1, ""), f"{tool}: status {ran.returncode}: {ran.stdout[:200]}")
     return ran.stderr
+
+
+def called_closed(tool, *words):
+    """A tool whose output is closed ends quietly, with status 1."""
+    reads, writes = os.pipe()
+    os.close(reads)
+    line = [sys.executable, str(TOOLS / tool), *map(str, words)]
+    buffered = {name: value for name, value in os.environ.items() if name != "PYTHONUNBUFFERED"}
+    ran = subprocess.run(line, stdout=writes, stderr=subprocess.PIPE, universal_newlines=True, check=False, env=buffered)
+    os.close(writes)
+    require((ran.returncode, ran.stderr) == (1, ""), f"{tool}, with its output closed: status {ran.returncode}: {ran.stderr.strip()[-200:]}")

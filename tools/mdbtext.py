@@ -1,4 +1,5 @@
 """Reads sessions of mdbfed as docs/FORMATS.md says, with the reason of the first bad line. The tools beside this file share it."""
+import os
 import pathlib
 import sys
 
@@ -32,12 +33,15 @@ class Bad(Exception):
 
 
 def told(main):
-    """Runs a tool. What is wrong with its inputs is told in one line, with status 1."""
+    """Runs a tool. What is wrong with its inputs is told in one line, with status 1. Where its output is closed it ends quietly."""
     try:
-        main()
-        sys.stdout.flush()
+        try:
+            main()
+        finally:
+            sys.stdout.flush()
     except BrokenPipeError:
-        sys.stderr.close()
+        # What is still to be written must go somewhere, or Python complains when it ends.
+        os.dup2(os.open(os.devnull, os.O_WRONLY), sys.stdout.fileno())
         sys.exit(1)
     except OSError as why:
         sys.exit(f"{pathlib.Path(sys.argv[0]).name}: {why.filename or 'a file'}: {why.strerror or why}")
