@@ -1,11 +1,12 @@
 #!/usr/bin/env python3
-"""Gives the program and tools/why.py the same spoiled inputs, and compares the first bad line and its reason. It is no part of the gate.
+"""Gives the program and tools/why.py the same spoiled inputs, and compares the reasons. It is no part of the gate.
 
 usage: bench/reasons.py [--times N] [--seed N] PROGRAM
 
-PROGRAM is the built `mdbfed`. The inputs are the sessions of examples/ for `replay`, and the scenarios of the same sessions with their outputs
-for `audit`. Each is spoiled in one to three places: a byte, a word or a line is changed, taken out, put in twice or put elsewhere. Each input
-on which the two differ is printed with both answers, and the status is then 1.
+PROGRAM is the built `mdbfed`. The inputs are the sessions of examples/ for `replay`, and the scenarios of the same
+sessions with their outputs for `audit`. Each is spoiled in one to three places: a byte, a word or a line is changed,
+taken out, put in twice or put elsewhere. Each input for which the two name another first bad line or another reason
+is printed with both answers, and the status is then 1.
 """
 import argparse
 import pathlib
@@ -58,7 +59,7 @@ def reason_of_tools(word, data):
 
 
 def reason_of_program(program, word, data):
-    """What the program finds. Another status than those of a bad line, a session that is carried out and an audit is told as it is."""
+    """What the program finds: the line and its reason, or nothing; of another end its status."""
     ran = subprocess.run([program, word], input=data, stdout=subprocess.PIPE, stderr=subprocess.PIPE, check=False)
     if ran.returncode not in (0, 2, 9):
         return f"status {ran.returncode}"

@@ -1,4 +1,4 @@
-"""Checks of the tools that say what is wrong with an input and with an audited output: why.py and due.py. check.py runs them."""
+"""Checks what why.py says of inputs, and due.py of audited outputs. check.py runs it."""
 import pathlib
 import tempfile
 
@@ -67,6 +67,9 @@ def check_other_ends_of_due(room, scenario, output, first):
     require(said.splitlines()[1:3] == ["  stands: order 1.0 2.0 3.0", f"  due:    {wanted}"], f"due.py: {said}")
     said = called_due(room, scenario, output + "end\n", f"differs at line {first + 35} form\n")
     require(said.splitlines()[1:3] == ["  stands: end", "  due:    (no line)"], f"due.py: {said}")
+    said = called_due(room, scenario, "".join(lines[:26] + ["order 1.0 3.0 2.0\n", "reads 1.0 500 40\n", "reads 3.0 141\n"]),
+                      f"differs at line {first + 28} reads\n")
+    require(said.splitlines()[2] == "  due:    reads 3.0 140", f"due.py: the reads in the printed order: {said}")
     for path, wanted in (("transfer.fed", "it is an input of `replay`"), ("transfer.out", "it is an output of `replay`"), ("", "Is a directory")):
         require(wanted in told_by("due.py", TOP / "examples" / path), f"due.py: {path}")
     called_closed("due.py", room / "audited", "--program", room / "program")
@@ -116,7 +119,7 @@ def check_why():
 
 
 def check_audited(data, output):
-    """The first bad line of an input of `audit` is the recorded one, and no line before the one that differs is told."""
+    """The first bad line of an input of `audit` is the recorded one, and none before the one that differs is named."""
     recorded = output.read_text()
     if recorded in ("too long\n",) or recorded.startswith("usage"):
         return

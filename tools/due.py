@@ -1,11 +1,13 @@
 #!/usr/bin/env python3
-"""Says what is due at the line at which an audited output differs, beside what stands there, and by which section of docs/RULES.md.
+"""Says what is due where an audited output differs, beside what stands there, and which section of docs/RULES.md decides.
 
-INPUT is an input of `audit`: a scenario, the line `printed`, and an output. The program is asked twice: `audit` names the line, and `replay`
-carries out the commands of the output up to it, so what is due is what the program prints there. Where several lines are right, as other
-edges of a cycle, another order or another command, one of them is shown, and it is said which others are.
+INPUT is an input of `audit`: a scenario, the line `printed`, and an output. The program is asked twice: `audit` names
+the line, and `replay` carries out the commands of the output up to it. What is due is what the program prints there.
+Where several lines are right, as other edges of a cycle, another order or another command, one of them is shown, and
+it is said which others are right.
 
-The program is `mdbfed` beside this folder, or another one by --program. Where it isn't built, each of the two calls compiles it first.
+The program is `mdbfed` beside this folder, or another one by --program. Where it isn't built, each of the two calls
+compiles it first.
 
 The status is 0 where the output agrees, and 1 where it differs or can't be audited.
 
@@ -42,7 +44,7 @@ OF_REPORT = {"form": (19,), "open": (12,), "order": (11,), "reads": (11,), "outc
 def asked(program, word, data):
     """What the program prints for an input."""
     ran = subprocess.run([program, word], input=data, stdout=subprocess.PIPE, stderr=subprocess.PIPE, check=False)
-    if ran.returncode not in (0, 2, 9):
+    if ran.returncode not in ((0, 2, 9) if word == "audit" else (0,)):
         said = (ran.stdout + ran.stderr).decode("ascii", "replace").strip().split("\n")[-1]
         raise Wrong(f"{program} {word}: it ended with status {ran.returncode}: {said[:200]}")
     return ran.stdout.decode("ascii", "replace").split("\n")[:-1]
@@ -88,7 +90,8 @@ def report_due(audited, replayed):
     report = replayed[audited.order :]
     reads = {text.split(" ")[1]: text for text in report if text.startswith("reads ")}
     named = audited.texts[audited.order].split(" ")[1:]
-    return [audited.texts[audited.order], *(reads.get(it, f"reads {it}") for it in named), *(it for it in report[1:] if it.split(" ")[0] != "reads")]
+    rest = [text for text in report[1:] if not text.startswith("reads ")]
+    return [audited.texts[audited.order], *(reads.get(it, f"reads {it}") for it in named), *rest]
 
 
 def line_due(audited, program, at, what):
@@ -149,6 +152,9 @@ def shown(text):
 def difference(audited, program, number, what):
     """The lines to print about the line that differs."""
     at = number - audited.first
+    if not 0 <= at <= len(audited.texts):
+        last = audited.first + len(audited.texts) - 1
+        raise Wrong(f"{program} audit: it names line {number}, and the output has the lines {audited.first} to {last}")
     stands = audited.texts[at] if at < len(audited.texts) else None
     due, others = line_due(audited, program, at, what)
     heads = titles()
@@ -175,7 +181,7 @@ def main():
         print(f"{words.input}: it agrees")
         return
     found = re.fullmatch(r"differs at line (\d+) (\w+)", verdict)
-    if not found or int(found[1]) < audited.first:
+    if not found:
         raise Wrong(f"{words.program} audit: it says `{verdict[:200]}`")
     print(*difference(audited, words.program, int(found[1]), found[2]), sep="\n")
     sys.exit(1)

@@ -1,14 +1,15 @@
 #!/usr/bin/env python3
-"""Prints the journals of a folder record by record, says where a torn or damaged frame stands, who is in doubt, and which file to doubt.
+"""Prints the journals of a folder record by record, and says who is in doubt, what is torn or damaged, and which file to doubt.
 
 The folder has the files disk0 (the coordinator) to disk8 (site 8), each with the bytes of a journal (docs/FORMATS.md, section 4). A file
 that is missing or empty is an unused disk. A torn rest at the end is what a stop left: the next start cuts it back. A damaged frame is none
 that a stop can leave. A site is in doubt of an attempt that is Prepared without an Ended behind it.
 
-The journals are checked against each other. What was forced before others were told of it is still there, so a commit at one site and an
-abort or nothing at another, a coordinator's disk that is older than a site's, and a site that was restored from an older copy show, and the
-file to doubt is named. `mdbfed resume` sees less of this, for it looks at each journal by itself. An older copy that lacks only what nobody
-else was told of isn't seen by either.
+The journals are checked against each other. What was forced before others were told of it must still be there. So it
+shows where an attempt has a commit at one site and an abort or nothing at another, where the coordinator's disk is
+older than a site's, and where a site was restored from an older copy, and the file to doubt is named. `mdbfed resume`
+sees less of this, since it looks at each journal almost by itself. An older copy that lacks only what nobody else was
+told of is seen by neither.
 
 The status is 0 where each journal could be read and none is to doubt, and 1 where a frame is damaged or a file is to doubt.
 

@@ -1,14 +1,15 @@
-"""Checks the journals of a folder against each other, by what no session leaves together (docs/RULES.md, sections 8, 9 and 15).
+"""Checks the journals of a folder against each other (docs/RULES.md, sections 8, 9 and 15). The tools share it.
 
-A Prepared that was voted on, an Ended that its protocol forces, and the coordinator's Initiation and Commit are synced before anybody is told
-of them, so they stay. Where one of them is missing, the file that hasn't it is older than another one, or of another session.
+A Prepared that was voted on, an Ended that its protocol forces, and the coordinator's Initiation and Commit are synced
+before anybody is told of them, so they stay. Where one of them is missing, the file that hasn't it is older than
+another one, or of another session.
 """
 
 OLDER = "it is older than {}, or of another session"
 
 
 class Site:
-    """What a site's journal says: its set-up, its prepared attempts with their tickets, how they ended, and what a Checkpoint sums up."""
+    """What a site's journal says: its set-up, the prepared attempts with their tickets, and how they ended."""
 
     def __init__(self, records):
         self.site = self.protocol = None
@@ -36,7 +37,7 @@ class Site:
         self.doubtful.add(fields["attempt"])
 
     def sum_up(self, fields):
-        """Takes a first Checkpoint, which stands for all before it: attempts with tickets up to its own may have ended there."""
+        """Takes a first Checkpoint, which stands for all before it. Attempts with tickets up to its own may have ended."""
         self.site, self.protocol, self.summed = fields["site"], fields["protocol"], fields["ticket"]
         self.locals.update(it[0] for it in fields["locals"])
         for found in fields["doubtful"]:
@@ -47,7 +48,7 @@ class Site:
 
 
 class Coordinator:
-    """What the coordinator's journal says of each attempt: its participants, its tickets where it committed, and whether it ended."""
+    """What the coordinator's journal says of each attempt: its participants, its Commit's tickets, and its End."""
 
     def __init__(self, records):
         self.participants, self.committed, self.ended, self.is_summed = {}, {}, set(), False
@@ -92,7 +93,7 @@ def of_protocol(number, site, coordinator):
 
 
 def of_commits(number, site, coordinator):
-    """What the coordinator committed is prepared at each participant, with the ticket of the Commit, and didn't end there by abort."""
+    """What the coordinator committed is prepared at each participant, with the Commit's ticket, and didn't abort there."""
     for attempt, tickets in sorted(coordinator.committed.items()):
         if number not in tickets:
             continue
@@ -115,7 +116,7 @@ def of_ends(number, site, coordinator):
 
 
 def of_coordinator(number, site, coordinator):
-    """A site ends an attempt by commit only behind a Commit, and a site of presumed commit prepares only behind an Initiation."""
+    """A site ends an attempt by commit only after its Commit, and one of presumed commit prepares after an Initiation."""
     for attempt in sorted(site.globals()):
         name, decision = spelled(attempt), site.ended.get(attempt)
         if decision == "commit" and attempt not in coordinator.committed:
@@ -125,7 +126,7 @@ def of_coordinator(number, site, coordinator):
 
 
 def of_outcomes(sites, coordinator):
-    """No attempt ends by commit at one site and by abort at another. Where disk0 has its Commit, `of_commits` says so."""
+    """No attempt ends by commit at one site and by abort at another. Beside its Commit `of_commits` says so."""
     committed = {it: number for number, site in sites.items() for it, decision in site.ended.items() if decision == "commit"}
     for number, site in sites.items():
         for attempt, decision in sorted(site.ended.items()):
@@ -156,8 +157,8 @@ def misplaced(sites):
 
 
 def doubts(records):
-    """The files to doubt, each with why, by the records of the disks 0 to 8: an empty list of an empty disk, None of a damaged one, which
-    isn't compared."""
+    """The files to doubt, each with why, by the records of the disks 0 to 8. An empty disk has none; that of a damaged one
+    is None, and it isn't compared."""
     sites = {number: Site(found) for number, found in records.items() if number and found}
     wrong = list(misplaced(sites))
     sites = {number: site for number, site in sites.items() if site.site == number}

@@ -1,4 +1,4 @@
-"""Says what a file is that a tool is given: an input of the program, one of its outputs, a journal. The tools share it."""
+"""Says what a file is: an input of the program, one of its outputs, a journal. The tools share it."""
 import re
 
 from mdbjournal import COORDINATOR, SITE, Journal

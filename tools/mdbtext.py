@@ -33,7 +33,7 @@ class Bad(Exception):
 
 
 def told(main):
-    """Runs a tool. What is wrong with its inputs is told in one line, with status 1. Where its output is closed it ends quietly."""
+    """Runs a tool. What is wrong with its inputs is told in one line, with status 1; a closed output ends it quietly."""
     try:
         try:
             main()
@@ -293,7 +293,7 @@ def place_of_printed(data):
 
 
 def read_audited(data):
-    """The scenario of an input of `audit`, and the lines behind `printed` (without a line `printed` None), or the first bad line."""
+    """The scenario of an input of `audit` and the lines after `printed`, None without that line; or the first bad line."""
     place = place_of_printed(data)
     if place is None:
         return read_session(data, False), None

@@ -3,8 +3,10 @@
 
 The program prints `bad line L WHY` and no more. This prints the line, the word that is wrong where it is one word, and what to write instead
 (docs/FORMATS.md, section 1, has all reasons). Where no line is bad it names commands about nothing: those of a transaction that isn't
-declared, which the program carries out and answers `none` or `idle`. An input of `audit` is known by its line `printed`; of the output behind
-it the first line is named that no run prints. A file that is no input, as an output, a journal or one of `resume`, is told as what it is.
+declared, which the program carries out and answers `none` or `idle`.
+
+An input of `audit` is known by its line `printed`; of the output after it the first line is named that no run prints.
+Of a file that is no input, as an output or a journal, it says what it is and what to do with it.
 
 The status is 0 where the program would take the input, and 1 where it would refuse it.
 
@@ -229,7 +231,8 @@ def found_in(data, is_run):
         return [meaning(data)], False
     try:
         if kind == "audited" and not is_run:
-            return list(audited_remarks(data)) or ["nothing is wrong in it, an input of `audit`; whether its output agrees `audit` says"], True
+            nothing = "nothing is wrong in it, an input of `audit`; whether its output agrees `audit` says"
+            return list(audited_remarks(data)) or [nothing], True
         session = read_session(data, not is_run)
     except BadLine as bad:
         return list(advice_of(bad, data)), False
