@@ -163,6 +163,9 @@ def check_printed_doubts():
             said = called_with(int(bool(wanted)), "journal.py", room).splitlines()
             require([it for it in said if "doubt disk" in it] == [f"doubt disk{number}: {why}" for number, why in wanted], f"journal.py: {said}")
         called_closed("journal.py", room)
+        (room / "disk2").write_bytes(SECOND + prepared(1, 1)[:-1])
+        torn = f"doubt disk2: {UNPREPARED.format(1)}; or its torn rest at byte {len(SECOND)} is damage"
+        require(called_with(1, "journal.py", room).splitlines()[-1] == torn, "journal.py: a torn rest that may be damage")
         (room / "disk0").unlink()
         require("doubt disk0: " + NO_COMMIT.format(1) in called_with(1, "journal.py", room), "journal.py: no coordinator")
         (room / "disk3").mkdir()

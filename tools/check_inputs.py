@@ -6,6 +6,7 @@ import due
 import mdbtext
 import why
 from mdbchecks import TOP, called_closed, called_with, require, told_by
+from mdbkinds import kind_of
 
 SITE = "site 1 locking abort\n"
 # A program in place of `mdbfed`: it keeps its input, and prints what is written for its word.
@@ -112,6 +113,9 @@ def check_why():
             path.write_bytes(text.encode())
             said = called_with(status, "why.py", path)
             require(said.startswith(f"{path}: ") and wanted in said, f"why.py: {text!r}: {said}")
+    for output in sorted((TOP / "conformance").glob("*/*.stdout")):
+        kinds = {"audit": ("ending",), "resume": ("ending", "resumed")}.get(output.parent.name, ("output",))
+        require(kind_of(output.read_bytes()) in kinds, f"mdbkinds.py: {output}: {kind_of(output.read_bytes())}")
     for name in ("transfer.fed", "transfer.out"):
         called_closed("why.py", TOP / "examples" / name)
     for output in sorted((TOP / "conformance/audit").glob("*.stdout")):

@@ -82,7 +82,7 @@ def coordinator_lines(journal):
 
 
 def report(number, data):
-    """Prints one disk, and answers its records, or None where a frame of it is damaged."""
+    """Prints one disk, and answers its journal."""
     name = f"site {number}" if number else "coordinator"
     journal = Journal(data, SITE if number else COORDINATOR)
     print(f"disk{number} ({name}): {len(data)} bytes, {len(journal.records)} records")
@@ -92,7 +92,16 @@ def report(number, data):
         print(line)
     for line in site_lines(journal) if number else coordinator_lines(journal):
         print(line)
-    return None if journal.damaged else journal.records
+    return journal
+
+
+def doubt_lines(journals):
+    """The files to doubt, by the journals of the disks that aren't empty. A changed length makes a record a torn rest."""
+    records = {number: journals[number].records if number in journals else [] for number in range(9)}
+    records.update((number, None) for number, journal in journals.items() if journal.damaged)
+    for number, why in mdbcross.doubts(records):
+        torn = number in journals and journals[number].torn
+        yield f"doubt disk{number}: {why}" + (f"; or its torn rest at byte {torn[0]} is damage" if torn else "")
 
 
 def main():
@@ -105,13 +114,13 @@ def main():
     present = {number: file.read_bytes() for number, file in files.items() if file.exists()}
     if not present:
         raise Wrong(f"{folder}: none of the files disk0 to disk8 is there")
-    records = {number: report(number, present[number]) if present.get(number) else [] for number in files}
-    if not any(present.values()):
+    journals = {number: report(number, data) for number, data in present.items() if data}
+    if not journals:
         print("all disks are empty")
-    doubts = mdbcross.doubts(records)
-    for number, why in doubts:
-        print(f"doubt disk{number}: {why}")
-    sys.exit(1 if doubts or None in records.values() else 0)
+    doubts = list(doubt_lines(journals))
+    for line in doubts:
+        print(line)
+    sys.exit(1 if doubts or any(journal.damaged for journal in journals.values()) else 0)
 
 
 if __name__ == "__main__":
