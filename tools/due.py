@@ -20,7 +20,7 @@ import subprocess
 import sys
 
 from mdbkinds import kind_of, meaning
-from mdbtext import MOST_COMMANDS, Bad, BadLine, Wrong, bytes_of, place_of_printed, read_audited, told
+from mdbtext import MOST_COMMANDS, OF_COORDINATOR, Bad, BadLine, Wrong, bytes_of, place_of_printed, read_audited, told
 
 TOP = pathlib.Path(__file__).resolve().parent.parent
 LONGEST_SHOWN = 2000
@@ -29,11 +29,11 @@ SECTIONS = (
     (r"(set|awake|stopped .*|up .*|down|checked|large)$", (6,)),
     (r"(none|idle|end|unfinished|spent)$", (1,)),
     (r"(begun|running|committed \S+$|unbegun|aborted)", (2,)),
-    (r"committed .* number", (3,)),
+    (r"committed .* number", (3, 4)),
     (r"decides abort cycle", (10,)),
     (r"(did \S+ )?(waits|dies|late) |(votes .* no )?(invalid|moved)", (4, 5)),
     (r"did .* ticket|votes .* yes", (5, 7)),
-    (r"(read|wrote) |did .* value", (3, 4)),
+    (r"(read|wrote) |did .* (value|done)", (3, 4)),
     (r"(settles|unheld)", (8,)),
     (r"(did|votes|asks|dropped)", (7,)),
 )
@@ -126,8 +126,11 @@ def sections_of(what, due, stands):
     if what in OF_REPORT and not (what == "form" and is_answer):
         return OF_REPORT[what]
     word = (due or stands).split(" ")[0]
-    if what == "places" or word in ("take", "late", "again") and not re.match("stopped|down|none|idle", answer_of(due)):
-        return (10,) if "cycle" in answer_of(due) else (9,) if word in ("take", "late", "again", "go") else (7, 8)
+    is_coordinators = word in OF_COORDINATOR and not re.match("stopped|down|none|idle|spent", answer_of(due))
+    if is_coordinators:
+        return (10,) if "cycle" in answer_of(due) else (9,)
+    if what == "places":
+        return (7, 8)
     for text in (due, stands):
         found = next((sections for form, sections in SECTIONS if re.match(form, answer_of(text))), None)
         if found:
