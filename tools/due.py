@@ -30,7 +30,6 @@ SECTIONS = (
     (r"(none|idle|end|unfinished|spent)$", (1,)),
     (r"(begun|running|committed \S+$|unbegun|aborted)", (2,)),
     (r"committed .* number", (3, 4)),
-    (r"decides abort cycle", (10,)),
     (r"(did \S+ )?(waits|dies|late) |(votes .* no )?(invalid|moved)", (4, 5)),
     (r"did .* ticket|votes .* yes", (5, 7)),
     (r"(read|wrote) |did .* (value|done)", (3, 4)),
@@ -128,7 +127,7 @@ def sections_of(what, due, stands):
     word = (due or stands).split(" ")[0]
     is_coordinators = word in OF_COORDINATOR and not re.match("stopped|down|none|idle|spent", answer_of(due))
     if is_coordinators:
-        return (10,) if "cycle" in answer_of(due) else (9,)
+        return (10,) if what == "answer" and "cycle" in answer_of(due) else (9,)
     if what == "places":
         return (7, 8)
     for text in (due, stands):
