@@ -4,9 +4,11 @@
   chart.py     draws each session, whole and in part, as XML
   to_json.py   makes an object of each line; its vector clocks count each actor's lines, and a message's sending stands before its taking
   standing.py  says at the last line of each session that all rest
-  why.py       finds nothing wrong in them, and finds each kind of bad line in a text that has it
+  why.py       finds nothing wrong in them, finds each kind of bad line in a text that has it, and says what files of other kinds are
+  due.py       shows the line that is due, with a stand-in for the program
   made.py      prints examples/made.run again
-  journal.py   finds the damaged frame of each damaged journal, and no other, and nobody in doubt behind a start
+  journal.py   finds the damaged frame of each damaged journal, and no other, and nobody in doubt behind a start; names the
+               files to doubt where journals contradict each other, and none of journals that a session leaves
 
 The status is 0 where all is so. tools/examples.sh runs this first.
 
@@ -15,7 +17,6 @@ example: tools/check.py
 import argparse
 import json
 import pathlib
-import subprocess
 import sys
 import xml.dom.minidom
 
@@ -27,9 +28,10 @@ import mdbtext
 import standing
 import to_json
 import why
+from check_folders import check_doubts
+from check_inputs import check_due, check_why
+from mdbchecks import TOP, Fault, called, require
 
-TOOLS = pathlib.Path(__file__).resolve().parent
-TOP = TOOLS.parent
 # A text for each reason, and the line that is bad.
 SITE = "site 1 locking abort\n"
 BAD_TEXTS = {
@@ -46,24 +48,6 @@ BAD_TEXTS = {
     "register": (SITE + "local 1 1 get:5 add:5:1:1\n", 2),
     "many": (SITE + "local 1 1" + " get:1" * 33 + "\n", 2),
 }
-
-
-class Fault(Exception):
-    """What a tool did otherwise than it should."""
-
-
-def called(status, tool, *words):
-    """What a tool prints, which ends with this status, and with one line of error where that is 1."""
-    line = [sys.executable, str(TOOLS / tool), *map(str, words)]
-    ran = subprocess.run(line, stdout=subprocess.PIPE, stderr=subprocess.PIPE, universal_newlines=True, check=False)
-    if ran.returncode != status or status == 1 and ran.stderr.count("\n") != 1:
-        raise Fault(f"{tool} {' '.join(map(str, words))}: status {ran.returncode}: {ran.stderr.strip()[-200:]}")
-    return ran.stdout
-
-
-def require(holds, what):
-    if not holds:
-        raise Fault(what)
 
 
 def check_chart(run):
@@ -154,7 +138,7 @@ def main():
     try:
         for session in sessions:
             check_session(session)
-        for check in (check_calls, check_bad_texts, check_made, check_journals):
+        for check in (check_calls, check_bad_texts, check_due, check_why, check_made, check_journals, check_doubts):
             check()
     except Fault as why:
         sys.exit(f"check.py: {why}")

@@ -33,7 +33,7 @@ for wanted in "$room/cases"/*.stdout; do
     "$crate/out/mdbfed" replay < "$room/cases/$name" | diff -u --label "$name, wanted" --label "$name, printed" "$wanted" - || failed=1
     mkdir "$room/journals" || exit 2
     "$crate/out/mdbfed" store "$room/journals" < "$room/cases/$name" | diff -u --label "$name, wanted" --label "$name, stored" "$wanted" - || failed=1
-    "$top/tools/journal.py" "$room/journals" > "$room/records" || { echo "$name: a journal in its folder is damaged"; failed=1; }
+    "$top/tools/journal.py" "$room/journals" > "$room/records" || { echo "$name: a journal in its folder is damaged or to doubt"; failed=1; }
     "$crate/out/mdbfed" resume "$room/journals" > "$room/resumed" || { echo "$name: it doesn't go on from its folder"; failed=1; }
     diff -u --label "$name, tables wanted" --label "$name, tables behind a resume" <(grep '^table' "$wanted") <(grep '^table' "$room/resumed") || failed=1
     rm -r -- "$room/journals"

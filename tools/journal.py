@@ -1,11 +1,17 @@
 #!/usr/bin/env python3
-"""Prints the journals of a folder record by record, says where a torn or damaged frame stands, and who is in doubt.
+"""Prints the journals of a folder record by record, and says who is in doubt, what is torn or damaged, and which file to doubt.
 
 The folder has the files disk0 (the coordinator) to disk8 (site 8), each with the bytes of a journal (docs/FORMATS.md, section 4). A file
 that is missing or empty is an unused disk. A torn rest at the end is what a stop left: the next start cuts it back. A damaged frame is none
 that a stop can leave. A site is in doubt of an attempt that is Prepared without an Ended behind it.
 
-The status is 0 where each journal could be read, and 1 where a frame is damaged.
+The journals are checked against each other. What was forced before others were told of it must still be there. So it
+shows where an attempt has a commit at one site and an abort or nothing at another, where the coordinator's disk is
+older than a site's, and where a site was restored from an older copy, and the file to doubt is named. `mdbfed resume`
+sees less of this, since it looks at each journal almost by itself. An older copy that lacks only what nobody else was
+told of is seen by neither.
+
+The status is 0 where each journal could be read and none is to doubt, and 1 where a frame is damaged or a file is to doubt.
 
 example: tools/journal.py FOLDER
 """
@@ -13,6 +19,7 @@ import argparse
 import pathlib
 import sys
 
+import mdbcross
 from mdbjournal import COORDINATOR, SITE, Journal, doubtful, still_open
 from mdbtext import Wrong, told
 
@@ -75,7 +82,7 @@ def coordinator_lines(journal):
 
 
 def report(number, data):
-    """The lines to print of one disk, and whether a frame of it is damaged."""
+    """Prints one disk, and answers its journal."""
     name = f"site {number}" if number else "coordinator"
     journal = Journal(data, SITE if number else COORDINATOR)
     print(f"disk{number} ({name}): {len(data)} bytes, {len(journal.records)} records")
@@ -85,7 +92,16 @@ def report(number, data):
         print(line)
     for line in site_lines(journal) if number else coordinator_lines(journal):
         print(line)
-    return journal.damaged is not None
+    return journal
+
+
+def doubt_lines(journals):
+    """The files to doubt, by the journals of the disks that aren't empty. A changed length makes a record a torn rest."""
+    records = {number: journals[number].records if number in journals else [] for number in range(9)}
+    records.update((number, None) for number, journal in journals.items() if journal.damaged)
+    for number, why in mdbcross.doubts(records):
+        torn = number in journals and journals[number].torn
+        yield f"doubt disk{number}: {why}" + (f"; or its torn rest at byte {torn[0]} is damage" if torn else "")
 
 
 def main():
@@ -98,10 +114,13 @@ def main():
     present = {number: file.read_bytes() for number, file in files.items() if file.exists()}
     if not present:
         raise Wrong(f"{folder}: none of the files disk0 to disk8 is there")
-    damaged = [report(number, data) for number, data in present.items() if data]
-    if not damaged:
+    journals = {number: report(number, data) for number, data in present.items() if data}
+    if not journals:
         print("all disks are empty")
-    sys.exit(1 if any(damaged) else 0)
+    doubts = list(doubt_lines(journals))
+    for line in doubts:
+        print(line)
+    sys.exit(1 if doubts or any(journal.damaged for journal in journals.values()) else 0)
 
 
 if __name__ == "__main__":

@@ -1,6 +1,7 @@
 """Reads what mdbfed printed for a session (docs/FORMATS.md, sections 2 and 3), and checks that the two belong together. The tools share it."""
 import re
 
+from mdbkinds import ENDINGS
 from mdbtext import Bad, BadLine, Wrong, bytes_of, read_session
 
 T, N = r"\d+\.\d+", r"\d+"
@@ -30,12 +31,6 @@ ANSWERS = {
 FORMS = {word: re.compile(form) for word, form in ANSWERS.items()}
 REPORT = re.compile(
     f"order(?: {T})*|reads {T}(?: {N})*|outcome {T} (?:commit|abort)|forgotten(?: {T})*|table {N}(?: {N}={N})*|end", re.ASCII
-)
-# The last line where the program ended without a report, and what that means.
-ENDINGS = (
-    (r"bad line \d+ \w+", "the program refused its input; tools/why.py says what to do"),
-    (r"usage: .*", "the program was called with words that are no command"),
-    (r"read failed|no memory|too long|disk \d failed|disk \d is (?:used|large)", "the program ended without a report"),
 )
 
 

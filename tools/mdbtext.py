@@ -1,4 +1,5 @@
 """Reads sessions of mdbfed as docs/FORMATS.md says, with the reason of the first bad line. The tools beside this file share it."""
+import os
 import pathlib
 import sys
 
@@ -32,12 +33,15 @@ class Bad(Exception):
 
 
 def told(main):
-    """Runs a tool. What is wrong with its inputs is told in one line, with status 1."""
+    """Runs a tool. What is wrong with its inputs is told in one line, with status 1; a closed output ends it quietly."""
     try:
-        main()
-        sys.stdout.flush()
+        try:
+            main()
+        finally:
+            sys.stdout.flush()
     except BrokenPipeError:
-        sys.stderr.close()
+        # What is still to be written must go somewhere, or Python complains when it ends.
+        os.dup2(os.open(os.devnull, os.O_WRONLY), sys.stdout.fileno())
         sys.exit(1)
     except OSError as why:
         sys.exit(f"{pathlib.Path(sys.argv[0]).name}: {why.filename or 'a file'}: {why.strerror or why}")
@@ -100,10 +104,9 @@ class Session:
 
     def act(self, word, whole):
         """Checks the form of an act, and answers a call that gives it, with its numbers checked."""
-        name, _, rest = word.partition(":")
-        fields = rest.split(":")
-        highest = {"get": (65535,), "set": (65535, 2**64 - 1), "add": (65535, 31, 2**64 - 1)}.get(name, ())
-        if len(fields) != len(highest):
+        name, *fields = word.split(":")
+        highest = {"get": (65535,), "set": (65535, 2**64 - 1), "add": (65535, 31, 2**64 - 1)}.get(name)
+        if highest is None or len(fields) != len(highest):
             raise Bad("spelling", whole)
 
         def numbers():
@@ -279,3 +282,19 @@ def read_session(data, with_commands=True):
         except Bad as why:
             raise BadLine(number, why.reason, why.word) from None
     return session
+
+
+def place_of_printed(data):
+    """Where the line `printed` begins in an input of `audit`, or None."""
+    if data.startswith(b"printed\n"):
+        return 0
+    place = data.find(b"\nprinted\n")
+    return None if place < 0 else place + 1
+
+
+def read_audited(data):
+    """The scenario of an input of `audit` and the lines after `printed`, None without that line; or the first bad line."""
+    place = place_of_printed(data)
+    if place is None:
+        return read_session(data, False), None
+    return read_session(data[:place], False), data[place + len(b"printed\n") :].split(b"\n")[:-1]

@@ -5,14 +5,20 @@ The program prints `bad line L WHY` and no more. This prints the line, the word 
 (docs/FORMATS.md, section 1, has all reasons). Where no line is bad it names commands about nothing: those of a transaction that isn't
 declared, which the program carries out and answers `none` or `idle`.
 
+An input of `audit` is known by its line `printed`; of the output after it the first line is named that no run prints.
+Of a file that is no input, as an output or a journal, it says what it is and what to do with it.
+
 The status is 0 where the program would take the input, and 1 where it would refuse it.
 
 example: tools/why.py examples/transfer.fed
 """
 import argparse
+import re
 import sys
 
-from mdbtext import COMMANDS, OF_LOCAL, BadLine, bytes_of, read_session, told
+from mdbkinds import kind_of, meaning
+from mdblines import REPORT, Line
+from mdbtext import COMMANDS, OF_LOCAL, Bad, BadLine, bytes_of, read_audited, read_session, told
 
 LONGEST = 4_194_304
 FORMS = {
@@ -83,7 +89,7 @@ def of_word(line, words, bad):
     if first.lower() != first and first.lower() in FORMS:
         return f"words are in lower case: write `{first.lower()}`"
     if first == "commands":
-        return "an input of `run` has no commands: give it to `replay`, or take this line and those behind it out"
+        return "an input of `run` has no commands, nor one of `audit` before `printed`: take this line and the commands out, or `replay` it"
     if first in COMMANDS:
         return f"`{first}` is a command: the line `commands` must stand before the first one"
     if first in FORMS:
@@ -111,6 +117,10 @@ def of_spelling(line, words, bad):
 
 
 def of_number(line, words, bad):
+    is_value = words[0] == "item" and words[3:] == [bad.word] or re.search("set:[0-9]+:-|add:[0-9]+:[0-9]+:-", bad.word)
+    less = re.search("(?:^|:)-([1-9][0-9]*)$", bad.word)
+    if is_value and less and int(less[1]) <= 2**64:
+        return f"a number has no sign, and sums are modulo 2^64: -{less[1]} is 2^64 - {less[1]}, so write {2**64 - int(less[1])}"
     return "a number is 0, or decimal digits without a leading zero, a sign or a point"
 
 
@@ -174,24 +184,73 @@ def remarks(session, data):
             yield f"line {number}: `{command}` is about nothing: {why}"
 
 
+def advice_of(bad, data):
+    """The lines about the first bad line."""
+    line = data.split(b"\n")[bad.line - 1]
+    yield f"{bad}: {advice(bad, line)}"
+    yield "  " + "".join(chr(byte) if 32 <= byte <= 126 else f"\\x{byte:02x}" for byte in line[:200])
+
+
+def fault_of(session, text):
+    """Why a line is none that a run of this session prints, or None."""
+    if text.endswith(b"\r"):
+        return "it ends with a carriage return: end lines by a line feed alone, as `tr -d '\\r' < FILE` does"
+    if any(not 32 <= byte <= 126 for byte in text):
+        return "there is a byte that no output has"
+    said = text.decode("ascii")
+    if REPORT.fullmatch(said):
+        return None
+    if not re.search(" =>( |$)", said):
+        return "it is neither a command with ` => ` and its answer nor a line of the report"
+    try:
+        Line(0, said, session)
+    except Bad as why:
+        return f"no run prints it ({why.reason}" + (f": {why.word})" if why.word else ")")
+    return None
+
+
+def audited_remarks(data):
+    """What is wrong with an input of `audit`, as lines: the first line of its output that no run prints."""
+    session, texts = read_audited(data)
+    first = data.count(b"\n") - len(texts) + 1
+    for number, text in enumerate(texts, first):
+        fault = fault_of(session, text)
+        if fault:
+            yield f"line {number}, which is line {number - first + 1} of the output: {fault}"
+            return
+    if not texts or texts[-1] != b"end":
+        yield f"the output behind line {first - 1} is cut: its last line isn't `end`"
+
+
+def found_in(data, is_run):
+    """The lines to print of an input, and whether the program would take it."""
+    kind = kind_of(data)
+    if len(data) > LONGEST:
+        return [f"it has {len(data)} bytes, and an input at most {LONGEST} (the program prints `too long`)"], False
+    if meaning(data):
+        return [meaning(data)], False
+    try:
+        if kind == "audited" and not is_run:
+            nothing = "nothing is wrong in it, an input of `audit`; whether its output agrees `audit` says"
+            return list(audited_remarks(data)) or [nothing], True
+        session = read_session(data, not is_run)
+    except BadLine as bad:
+        return list(advice_of(bad, data)), False
+    nothing = "nothing is wrong in it"
+    if session.commands is None and not is_run:
+        nothing += f"; {'it is empty' if kind == 'empty' else 'it has no line `commands`'}, so `replay` carries nothing out"
+    return list(remarks(session, data)) or [nothing], True
+
+
 def main():
     reader = argparse.ArgumentParser(description=__doc__, formatter_class=argparse.RawDescriptionHelpFormatter)
-    reader.add_argument("input", metavar="INPUT", help="an input of `replay`; `-` is standard input")
+    reader.add_argument("input", metavar="INPUT", help="an input of `replay` or `audit`; `-` is standard input")
     reader.add_argument("--run", action="store_true", help="it is an input of `run`, which has no commands")
     words = reader.parse_args()
-    data = bytes_of(words.input)
-    if len(data) > LONGEST:
-        print(f"{words.input}: it has {len(data)} bytes, and an input at most {LONGEST} (the program prints `too long`)")
-        sys.exit(1)
-    try:
-        session = read_session(data, not words.run)
-    except BadLine as bad:
-        line = data.split(b"\n")[bad.line - 1]
-        print(f"{words.input}: {bad}: {advice(bad, line)}")
-        print("  " + "".join(chr(byte) if 32 <= byte <= 126 else f"\\x{byte:02x}" for byte in line[:200]))
-        sys.exit(1)
-    found = list(remarks(session, data))
-    print(*[f"{words.input}: {remark}" for remark in found] or [f"{words.input}: nothing is wrong in it"], sep="\n")
+    found, is_taken = found_in(bytes_of(words.input), words.run)
+    for line in found:
+        print(line if line.startswith("  ") else f"{words.input}: {line}")
+    sys.exit(0 if is_taken else 1)
 
 
 if __name__ == "__main__":
