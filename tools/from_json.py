@@ -13,7 +13,7 @@ example: tools/to_json.py examples/transfer.fed examples/transfer.out | tools/fr
 import argparse
 import json
 
-from mdblines import REPORT, Line, session_at
+from mdblines import REPORT, Line, scenario_lines, session_of
 from mdbtext import Bad, Session, Wrong, bytes_of, told
 
 ENGINE = ("locking", "nothing")
@@ -121,11 +121,11 @@ def texts_of(data, name):
     return texts
 
 
-def scenario_lines(path):
-    """The lines of a scenario, without its commands."""
-    session_at(path)
-    lines = bytes_of(path).decode("ascii").splitlines()
-    return lines[: lines.index("commands")] if "commands" in lines else lines
+def head_of(path):
+    """What stands before the run in an input of `audit`."""
+    data = bytes_of(path)
+    session_of(data, path)
+    return [*scenario_lines(data), "printed"]
 
 
 def main():
@@ -133,7 +133,7 @@ def main():
     reader.add_argument("objects", metavar="OBJECTS", help="a file of objects, one on each line; - is standard input")
     reader.add_argument("--audit", metavar="SCENARIO", help="print an input of `mdbfed audit` for this scenario")
     words = reader.parse_args()
-    head = scenario_lines(words.audit) + ["printed"] if words.audit else []
+    head = head_of(words.audit) if words.audit else []
     for line in head + texts_of(bytes_of(words.objects), words.objects):
         print(line)
 
