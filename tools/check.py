@@ -6,6 +6,7 @@
   standing.py  says at the last line of each session that all rest
   why.py       finds nothing wrong in them, and finds each kind of bad line in a text that has it
   made.py      prints examples/made.run again
+  from_json.py, drive.py, costs.py, leave.py  as check_writers.py says
   journal.py   finds the damaged frame of each damaged journal, and no other, and nobody in doubt behind a start
 
 The status is 0 where all is so. tools/examples.sh runs this first.
@@ -14,8 +15,6 @@ example: tools/check.py
 """
 import argparse
 import json
-import pathlib
-import subprocess
 import sys
 import xml.dom.minidom
 
@@ -27,9 +26,9 @@ import mdbtext
 import standing
 import to_json
 import why
+from check_writers import WRITER_CHECKS, check_writers
+from checking import TOP, Fault, called, require
 
-TOOLS = pathlib.Path(__file__).resolve().parent
-TOP = TOOLS.parent
 # A text for each reason, and the line that is bad.
 SITE = "site 1 locking abort\n"
 BAD_TEXTS = {
@@ -46,24 +45,6 @@ BAD_TEXTS = {
     "register": (SITE + "local 1 1 get:5 add:5:1:1\n", 2),
     "many": (SITE + "local 1 1" + " get:1" * 33 + "\n", 2),
 }
-
-
-class Fault(Exception):
-    """What a tool did otherwise than it should."""
-
-
-def called(status, tool, *words):
-    """What a tool prints, which ends with this status, and with one line of error where that is 1."""
-    line = [sys.executable, str(TOOLS / tool), *map(str, words)]
-    ran = subprocess.run(line, stdout=subprocess.PIPE, stderr=subprocess.PIPE, universal_newlines=True, check=False)
-    if ran.returncode != status or status == 1 and ran.stderr.count("\n") != 1:
-        raise Fault(f"{tool} {' '.join(map(str, words))}: status {ran.returncode}: {ran.stderr.strip()[-200:]}")
-    return ran.stdout
-
-
-def require(holds, what):
-    if not holds:
-        raise Fault(what)
 
 
 def check_chart(run):
@@ -96,7 +77,7 @@ def check_session(path):
     """One session by all tools that read runs."""
     try:
         run = mdblines.read_run(str(path), str(path.with_suffix(".out")))
-        for check in (check_chart, check_json, check_standing):
+        for check in (check_chart, check_json, check_standing, check_writers):
             check(run)
         require(not list(why.remarks(run.session, path.read_bytes())), "why.py finds something")
     except (Fault, mdbtext.Wrong) as fault:
@@ -155,6 +136,8 @@ def main():
         for session in sessions:
             check_session(session)
         for check in (check_calls, check_bad_texts, check_made, check_journals):
+            check()
+        for check in WRITER_CHECKS:
             check()
     except Fault as why:
         sys.exit(f"check.py: {why}")

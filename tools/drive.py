@@ -158,9 +158,13 @@ class Driver:
         return [tx for tx in sorted({**self.session.locals, **self.session.globals}) if str(tx) not in begun]
 
     def live_locals(self):
-        """The local transactions that are live, by their numbers."""
-        names = {name for site in self.state().sites.values() for name in site.live}
-        return sorted({tx for tx in (int(name.split(".")[0]) for name in names) if tx in self.session.locals})
+        """The local transactions that are live, by their numbers, each with its attempt."""
+        found = {}
+        for number, site in self.state().sites.items():
+            for tx, attempt in ((int(name.split(".")[0]), name) for name in site.live):
+                if self.session.locals.get(tx, (None,))[0] == number:
+                    found[tx] = attempt
+        return dict(sorted(found.items()))
 
     def all(self):
         """Wakes all, begins what wasn't begun, and finishes it as far as it goes."""
@@ -202,9 +206,8 @@ def next_commands(driver):
 
 def local_commands(driver, state):
     """The next step of each live local transaction, or its commit."""
-    for tx in driver.live_locals():
+    for tx, attempt in driver.live_locals().items():
         home, steps = driver.session.locals[tx]
-        attempt = next(name for name in state.sites[home].live if int(name.split(".")[0]) == tx)
         done = sum(line.attempt == attempt and line.word == "step" and line.first() in ("read", "wrote") for line in driver.front())
         waits = f", which was told to wait for {state.sites[home].waits[attempt]}" if attempt in state.sites[home].waits else ""
         yield f"step {tx}: step {done + 1} of {attempt}{waits}" if done < len(steps) else f"commit {tx}: {attempt} has no step left"

@@ -17,6 +17,7 @@ from mdblines import REPORT, Line, scenario_lines, session_of
 from mdbtext import Bad, Session, Wrong, bytes_of, told
 
 ENGINE = ("locking", "nothing")
+REASONS = {"answer": "its answer is none of its command's", "place": "it sends a message that isn't of its actor"}
 
 
 def any_session():
@@ -55,7 +56,10 @@ def line_text(found):
 
 def check_line(text, found, number, session):
     """A line has its form, and what else the object says is so."""
-    line = Line(number, text, session)
+    try:
+        line = Line(number, text, session)
+    except Bad as why:
+        raise Bad(REASONS.get(why.reason, f"its command is no command: {why.reason}"), why.word) from None
     said = [(sent["way"], sent["site"], sent["place"]) for sent in found["sends"]]
     if said != line.sends:
         raise Bad("it sends a message that isn't of its actor")
@@ -99,8 +103,8 @@ def text_of(data, number, session, reports):
     if reports:
         raise Bad("a line stands after the report began")
     text = line_text(found)
-    if not text.isascii():
-        raise Bad("it isn't ASCII")
+    if not (text.isascii() and text.isprintable()):
+        raise Bad("its texts have other characters than the program prints")
     check_line(text, found, number, session)
     return text
 
