@@ -25,7 +25,7 @@ from checking import TOOLS, TOP, called, ended, require, require_same
 
 EXAMPLES = TOP / "examples"
 TRANSFER = EXAMPLES / "transfer.fed", EXAMPLES / "transfer.out"
-# A program that answers from the output beside it, each command as it is recorded there and a message as soon as it was sent.
+# A program that answers from the output beside it: each command as it is recorded there, a message once it was sent.
 RECORDED = '''#!/usr/bin/env python3
 import sys
 texts = open(sys.argv[0] + ".out").read().splitlines()
@@ -42,7 +42,15 @@ for command in sys.stdin.read().split("commands\\n")[1].splitlines():
         sent.add("give " + place.replace("/", " ") if "/" in place else "take " + words[1] + " " + place)
 print("\\n".join(text for text in texts if " =>" not in text))
 '''
-WAITS = "site 1 locking abort\nglobal 1 1/set:1:1 1/set:5:1\nlocal 2 1 set:5:2\ncommands\ngo 1\ngive 1 0\nbegin 2\nstep 2\n"
+WAITS = """site 1 locking abort
+global 1 1/set:1:1 1/set:5:1
+local 2 1 set:5:2
+commands
+go 1
+give 1 0
+begin 2
+step 2
+"""
 WAITS_OUT = """go 1 => begun 1.0 sends 1/0
 give 1 0 => did 1.0 done sends 0
 begin 2 => begun 2.0
@@ -90,14 +98,15 @@ take 1 4
 give 2 4
 """
 LOCALS = "begin 2\nstep 2\ncommit 2\nbegin 3\nstep 3\ncommit 3\n"
+UNBEGUN = "begin 2: no attempt of it was begun\nbegin 3: no attempt of it was begun\n"
 # How many lines of examples/transfer.out stand before the commands that may come next.
 NEXT = {
-    0: "go 1: no attempt of it was begun\nbegin 2: no attempt of it was begun\nbegin 3: no attempt of it was begun\n",
-    1: "give 1 0: the Work of 1.0\n" + "begin 2: no attempt of it was begun\nbegin 3: no attempt of it was begun\n",
-    5: "give 1 2: the Take of 1.0\ngive 2 0: the Work of 1.0\n" + "begin 2: no attempt of it was begun\nbegin 3: no attempt of it was begun\n",
-    7: "give 2 0: the Work of 1.0\ngive 1 3: the Prepare of 1.0\n" + "begin 2: no attempt of it was begun\nbegin 3: no attempt of it was begun\n",
-    16: "take 2 3: the vote of 1.0: yes\nask 1 1.0: it is in doubt since line 8\nask 2 1.0: it is in doubt since line 16\n"
-    + "begin 2: no attempt of it was begun\nbegin 3: no attempt of it was begun\n",
+    0: "go 1: no attempt of it was begun\n" + UNBEGUN,
+    1: "give 1 0: the Work of 1.0\n" + UNBEGUN,
+    5: "give 1 2: the Take of 1.0\ngive 2 0: the Work of 1.0\n" + UNBEGUN,
+    7: "give 2 0: the Work of 1.0\ngive 1 3: the Prepare of 1.0\n" + UNBEGUN,
+    16: "take 2 3: the vote of 1.0: yes\n"
+    "ask 1 1.0: it is in doubt since line 8\nask 2 1.0: it is in doubt since line 16\n" + UNBEGUN,
     21: "step 2: step 1 of 2.0\nbegin 3: no attempt of it was begun\n",
     22: "commit 2: 2.0 has no step left\nbegin 3: no attempt of it was begun\n",
     26: "",
@@ -111,14 +120,14 @@ COSTS = """attempt  protocol  outcome  messages  appended  forced
 others   -         -               0         4       2
 all      -         -              19        13       9
 """
-# What one transaction of a step at each of two sites costs that commits without a fault, by their protocols: messages, appended, forced.
+# What a commit costs of a transaction with a step at each of two sites, by their protocols: messages, appended, forced.
 COMMIT_COSTS = {
     ("nothing", "nothing"): [16, 6, 5],
     ("abort", "abort"): [16, 6, 5],
     ("commit", "commit"): [14, 6, 4],
     ("abort", "commit"): [15, 7, 5],
 }
-# The journals behind line 21 of examples/transfer.out: Ended is forced at site 1 and not at site 2.
+# The journals after line 21 of examples/transfer.out: Ended is forced at site 1 and not at site 2.
 LEFT = """disk0 (coordinator): 108 bytes, 2 records
   byte 0: Initiation: attempt 1.0, participants 1:abort 2:commit
   byte 47: Commit: attempt 1.0, tickets 1:1 2:1
@@ -148,7 +157,8 @@ BAD_OBJECTS = {
     "it sends a message that isn't of its actor",
     '{"command": "go 1", "answer": "begun", "sends": []}': "its answer is none of its command's (begun)",
     '{"command": "go", "answer": "none", "sends": []}': "its command is no command: count",
-    '{"command": "go 1", "answer": "begun 1.0", "sends": [{"way": "to", "site": true, "place": 0}]}': "its `site` is of another kind",
+    '{"command": "go 1", "answer": "begun 1.0", "sends": [{"way": "to", "site": true, "place": 0}]}':
+    "its `site` is of another kind",
     '{"command": "go 1", "answer": "none", "sends": [], "line": 2}': "its `line` isn't 1",
     '{"report": "reads", "words": ["x"]}': "it is no line of a report",
 }
@@ -206,17 +216,20 @@ def check_drive():
             fed = front_of(TRANSFER, count, folder)[0]
             front = fed.read_text()
             driven = called(0, "drive.py", fed, "--program", program)
-            require(driven.startswith(front) and sorted(driven.splitlines()) == sorted((scenario + "commands\n" + DRIVEN).splitlines()),
-                    f"drive.py: {count} commands aren't driven to the end")
+            whole = sorted((scenario + "commands\n" + DRIVEN).splitlines())
+            require(driven.startswith(front), f"drive.py: the {count} commands don't stand first")
+            require(sorted(driven.splitlines()) == whole, f"drive.py: {count} commands aren't driven to the end")
         fed = folder / "scenario"
         fed.write_text(scenario)
         driven = called(0, "drive.py", fed, "--program", program, "--all")
         require_same(driven, scenario + "commands\n" + DRIVEN + LOCALS, "drive.py --all")
-        require_same(called(0, "drive.py", fed, "--program", program), scenario + "commands\n", "drive.py of a quiet session")
+        driven = called(0, "drive.py", fed, "--program", program)
+        require_same(driven, scenario + "commands\n", "drive.py of a quiet session")
         for count, wanted in NEXT.items():
             require_same(next_at(*front_of(TRANSFER, count, folder)), wanted, f"drive.py --next at {count}")
         lost = called(0, "drive.py", front_of(TRANSFER, 1, folder)[0], "--program", program, "--lose", "take 1 1")
-        require_same(lost, scenario + "commands\n" + "".join(line + "\n" for line in DRIVEN.split("\n")[:4]), "drive.py --lose")
+        require_same(lost, scenario + "commands\ngo 1\ngive 1 0\ntake 1 0\ngive 1 1\n", "drive.py --lose")
+        called(1, "drive.py", fed, "--program", program, "--lose", "go 1")
 
 
 def check_drive_goes_on():
@@ -227,13 +240,32 @@ def check_drive_goes_on():
         fed.write_text(WAITS)
         commands = [line.split(" =>")[0] + "\n" for line in WAITS_OUT.splitlines() if " =>" in line]
         head = WAITS.partition("go 1\n")[0]
-        require_same(called(0, "drive.py", fed, "--program", program), head + "".join(commands[:7]), "drive.py of one that waits")
-        require_same(called(0, "drive.py", fed, "--program", program, "--all"), head + "".join(commands), "drive.py --all of one that waits")
+        driven = called(0, "drive.py", fed, "--program", program)
+        require_same(driven, head + "".join(commands[:7]), "drive.py of one that waits")
+        driven = called(0, "drive.py", fed, "--program", program, "--all")
+        require_same(driven, head + "".join(commands), "drive.py --all of one that waits")
         paths = EXAMPLES / "stopped_commit.fed", EXAMPLES / "stopped_commit.out"
         program = program_at(folder, paths[1].read_text())
         fed, out = front_of(paths, 4, folder)
         require_same(next_at(fed, out), "back 1: site 1 is down\n", "drive.py --next of one that is down")
-        require_same(called(0, "drive.py", fed, "--program", program, "--all"), fed.read_text() + "back 1\n", "drive.py --all of one that is down")
+        driven = called(0, "drive.py", fed, "--program", program, "--all")
+        require_same(driven, fed.read_text() + "back 1\n", "drive.py --all of one that is down")
+
+
+UNDECIDED = """go 1 => begun 1.0 sends 1/0
+give 1 0 => did 1.0 done sends 0
+take 1 0 => sends 1/1 2/0
+give 1 1 => did 1.0 ticket 1 sends 1
+take 1 1 => INITIATESsends 1/2
+give 1 2 => votes 1.0 yes 1 sends 2
+take 1 2 => voted
+give 2 0 => did 1.0 done sends 0
+take 2 0 => sends 2/1
+give 2 1 => did 1.0 ticket 1 sends 1
+take 2 1 => sends 2/2
+give 2 2 => votes 1.0 yes 1 sends 2
+take 2 2 => decides commitFORGETS sends 1/3 2/3
+"""
 
 
 def two_sites(protocols):
@@ -241,11 +273,8 @@ def two_sites(protocols):
     session = "".join(f"site {site} locking {protocol}\n" for site, protocol in enumerate(protocols, 1))
     acknowledged = [site for site, protocol in enumerate(protocols, 1) if protocol != "commit"]
     initiates = "initiates " if "commit" in protocols else ""
-    lines = ["go 1 => begun 1.0 sends 1/0", "give 1 0 => did 1.0 done sends 0", "take 1 0 => sends 1/1 2/0"]
-    lines += ["give 1 1 => did 1.0 ticket 1 sends 1", f"take 1 1 => {initiates}sends 1/2", "give 1 2 => votes 1.0 yes 1 sends 2"]
-    lines += ["take 1 2 => voted", "give 2 0 => did 1.0 done sends 0", "take 2 0 => sends 2/1", "give 2 1 => did 1.0 ticket 1 sends 1"]
     forgets = "" if acknowledged else " forgets"
-    lines += ["take 2 1 => sends 2/2", "give 2 2 => votes 1.0 yes 1 sends 2", f"take 2 2 => decides commit{forgets} sends 1/3 2/3"]
+    lines = UNDECIDED.replace("INITIATES", initiates).replace("FORGETS", forgets).splitlines()
     for site in (1, 2):
         lines.append(f"give {site} 3 => settles 1.0 commit" + (" sends 3" if site in acknowledged else ""))
         if site in acknowledged:
@@ -264,7 +293,7 @@ def check_costs():
             fed.write_text(session)
             out.write_text(output)
             counted = called(0, "costs.py", fed, out, "--commands").splitlines()[1].split()[3:]
-            require(list(map(int, counted)) == wanted, f"costs.py: a commit at sites that presume {protocols}: {counted}")
+            require(list(map(int, counted)) == wanted, f"costs.py: a commit at {protocols}: {counted}")
 
 
 def check_leave():
@@ -274,9 +303,11 @@ def check_leave():
         require_same(said, "disk0: 113 bytes\ndisk1: 210 bytes\ndisk2: 172 bytes\n", "leave.py")
         wanted = LEFT.replace("108 bytes, 2", "113 bytes, 2")
         require_same(called(0, "journal.py", folder), wanted, "leave.py: its journals")
-        require(sorted(file.name for file in folder.iterdir()) == [f"disk{actor}" for actor in range(9)], "leave.py: nine files")
+        names = sorted(file.name for file in folder.iterdir())
+        require(names == [f"disk{actor}" for actor in range(9)], "leave.py: nine files")
         require("it is there already" in ended("leave.py", *TRANSFER, 21, folder)[2], "leave.py writes over journals")
-        require(called(0, "leave.py", *TRANSFER, 0, folder / "set_up") == "disk1: 93 bytes\ndisk2: 93 bytes\n", "leave.py before the first line")
+        said = called(0, "leave.py", *TRANSFER, 0, folder / "set_up")
+        require_same(said, "disk1: 93 bytes\ndisk2: 93 bytes\n", "leave.py before the first line")
 
 
 def check_records():
@@ -284,11 +315,11 @@ def check_records():
     for case in sorted((TOP / "conformance/resume").glob("*.stdout")):
         for words in (line.split(" ") for line in case.with_suffix("").read_text().splitlines()):
             data = bytes.fromhex("".join(words[2:]))
-            read, spelled = (mdbjournal.SITE, mdbrecords.SITE) if words[1] != "0" else (mdbjournal.COORDINATOR, mdbrecords.COORDINATOR)
-            for place, version, kind, fields in mdbjournal.Journal(data, read).records:
-                frame = mdbrecords.frame_of(mdbrecords.payload_of(kind, fields, spelled))
-                if version == 2:
-                    require(data.startswith(frame, place), f"mdbrecords.py: {case.name}: {kind} at byte {place} of disk {words[1]}")
+            name = "SITE" if words[1] != "0" else "COORDINATOR"
+            for place, version, kind, fields in mdbjournal.Journal(data, getattr(mdbjournal, name)).records:
+                frame = mdbrecords.frame_of(mdbrecords.payload_of(kind, fields, getattr(mdbrecords, name)))
+                same = version == 1 or data.startswith(frame, place)
+                require(same, f"mdbrecords.py: {case.name}: {kind} at byte {place} of disk {words[1]}")
 
 
 def said_of(text):
@@ -315,7 +346,8 @@ def closed(tool, *words, given=b""):
     """The status and errors of a tool whose output is closed."""
     reading, writing = os.pipe()
     os.close(reading)
-    ran = subprocess.run([sys.executable, str(TOOLS / tool), *map(str, words)], input=given, stdout=writing, stderr=subprocess.PIPE, check=False)
+    line = [sys.executable, str(TOOLS / tool), *map(str, words)]
+    ran = subprocess.run(line, input=given, stdout=writing, stderr=subprocess.PIPE, check=False)
     os.close(writing)
     return ran.returncode, ran.stderr.decode()
 
@@ -327,7 +359,7 @@ def check_wrong_files():
         cut, empty, folder = (pathlib.Path(room) / name for name in ("cut", "empty", "folder"))
         cut.write_bytes(output.read_bytes()[:100])
         empty.write_bytes(b"")
-        others = (session, EXAMPLES / "wait_die.out", cut, empty, pathlib.Path(room), cut.with_name("missing"), pathlib.Path(sys.executable))
+        others = [session, EXAMPLES / "wait_die.out", cut, empty, room, cut.with_name("missing"), sys.executable]
         for other in others:
             called(1, "costs.py", session, other)
         for tool, more in (("leave.py", (3, folder)), ("drive.py", ("--next",))):
@@ -343,7 +375,16 @@ def check_wrong_files():
         for tool, words in (("costs.py", TRANSFER), ("drive.py", (*TRANSFER, "--next")), ("from_json.py", ("-",))):
             require(closed(tool, *words, given=objects) == (1, ""), f"{tool}: its output is closed, and it isn't quiet")
     for tool in ("costs.py", "leave.py", "drive.py", "from_json.py"):
-        require(os.access(TOOLS / tool, os.X_OK) and f"example: tools/" in called(0, tool, "--help"), f"{tool}: no help")
+        require(os.access(TOOLS / tool, os.X_OK), f"{tool}: it doesn't run by its name")
+        require("example: tools/" in called(0, tool, "--help"), f"{tool}: it has no help")
 
 
-WRITER_CHECKS = (check_drive, check_drive_goes_on, check_costs, check_leave, check_records, check_from_json, check_wrong_files)
+WRITER_CHECKS = (
+    check_drive,
+    check_drive_goes_on,
+    check_costs,
+    check_leave,
+    check_records,
+    check_from_json,
+    check_wrong_files,
+)

@@ -34,5 +34,6 @@ def require(holds, what):
 def require_same(printed, wanted, what):
     """A text is the one that is due; else its first line that isn't is named."""
     both = zip(printed.splitlines() + [""], wanted.splitlines() + [""])
-    first = next((f"{one!r} stands for {other!r}" for one, other in both if one != other), "a line is missing, or one more stands")
+    differing = [f"{one!r} stands for {other!r}" for one, other in both if one != other]
+    first = differing[0] if differing else "a line is missing, or one more stands"
     require(printed == wanted, f"{what}: {first}")

@@ -1,10 +1,11 @@
 #!/usr/bin/env python3
-"""Counts what each attempt of a run costs: messages that are sent, records that are appended to journals, and forced writes.
+"""Counts what each attempt of a run costs: messages sent, records appended to journals, and forced writes.
 
-A forced write is a sync, for which the actor waits. Which records a protocol forces stands in docs/RULES.md (sections 6, 8 and 9); they are
-derived from the printed lines, also those of a line in which an actor stops. Messages of work, tickets, commitment and inquiries count alike,
-each as often as it is sent, also where it is lost. An attempt of a global transaction counts to the protocol of its sites, or to `mixed` where
-they differ. What no attempt has caused stands last: the set-up of sites, starts and Checkpoints.
+A forced write is a sync, for which the actor waits. Which records a protocol forces stands in docs/RULES.md (sections
+6, 8 and 9). They are derived from the printed lines, also those of a line in which an actor stops. Messages of work,
+tickets, commitment and inquiries count alike, each as often as it is sent, also where it is lost. An attempt of a
+global transaction counts to the protocol of its sites, or to `mixed` where they differ. What no attempt has caused
+stands last: the set-up of sites, starts and Checkpoints.
 
 The lines of closing count too; with --commands those of the session's commands alone.
 
@@ -40,7 +41,7 @@ def added(costs, key, cost):
 
 
 def costs_of(run, count):
-    """What each attempt costs in the first lines, and all else under None: each site is set up by two records and a sync."""
+    """What each attempt costs in the first lines. All else is under None, with two records and a sync of each set-up."""
     disks = Disks(run).go_to(count)
     costs = {None: [0, 2 * len(run.session.sites), len(run.session.sites)]}
     for line, calls in zip(run.lines, disks.costs):
@@ -78,7 +79,7 @@ def main():
     reader = argparse.ArgumentParser(description=__doc__, formatter_class=argparse.RawDescriptionHelpFormatter)
     reader.add_argument("session", metavar="SESSION", help="the input that the run was made of")
     reader.add_argument("output", metavar="OUTPUT", help="what the program printed for it")
-    reader.add_argument("--commands", action="store_true", help="count the lines of the session's commands alone, without closing")
+    reader.add_argument("--commands", action="store_true", help="count the commands alone, without closing")
     words = reader.parse_args()
     run = read_run(words.session, words.output)
     if words.commands and run.commanded is None:

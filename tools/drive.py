@@ -1,16 +1,18 @@
 #!/usr/bin/env python3
 """Writes the commands of a session: gives and takes whatever was sent, in the order of sending, until all is quiet.
 
-It prints the session with these commands behind those that it has; a session may have none, and no line `commands`. The program is called to
-learn what each command makes happen, once a round: in a round each message that was sent and not yet received is given or taken. An attempt
-that was told to wait, or whose ticket is held back, is sent `again` once something ended since.
+It prints the session with these commands after those that it has; a session may have none, and no line `commands`.
+The program is called to learn what each command makes happen, once a round: in a round each message that was sent and
+not yet received is given or taken. An attempt that waits, or whose ticket is held back, is sent `again` once another
+one ended since.
 
-What is lost must be named, else it is received after all: --lose "give 2 4" leaves that message where it is. Messages to an actor that is
-down stay there; with --all it comes `back` first. --all also begins each declared transaction that was not begun, one after the other by
-their numbers, and finishes the local ones. Closing the session is the program's work, and no commands are written for it.
+A lost message must be named, else it is received after all: --lose "give 2 4" leaves that message where it is.
+Messages to an actor that is down stay there; with --all it comes `back` first. --all also begins each declared
+transaction that was not begun, one after the other by their numbers, and finishes the local ones. The program closes
+the session by itself, and no commands are written for that.
 
-With --next nothing is added: the commands that may come next are printed, each with what it is about. Where the program's output for the
-session is named as well, the program isn't called.
+With --next nothing is added: the commands that may come next are printed, each with what it is about. Where the
+program's output for the session is named as well, the program isn't called.
 
 example: tools/drive.py SESSION --all > LONGER
          tools/drive.py examples/transfer.fed examples/transfer.out --next
@@ -23,11 +25,13 @@ import subprocess
 from mdblines import Run, check_commands, check_report, scenario_lines, session_of, texts_of
 from mdbmessages import messages_of
 from mdbstate import State, attempts
-from mdbtext import MOST_COMMANDS, Wrong, bytes_of, told
+from mdbtext import MOST_COMMANDS, Bad, Wrong, bytes_of, told
 
 PROGRAM = pathlib.Path(__file__).resolve().parent.parent / "mdbfed"
-# After such an answer somebody else may go on.
-ENDED = re.compile("settles|unheld|committed|aborted|dropped|decides|forgets|invalid|stopped|up|votes .* no|did .* (dies|late)")
+# After such an answer another attempt may go on.
+ENDED = re.compile(
+    "settles|unheld|committed|aborted|dropped|decides|forgets|invalid|stopped|up|votes .* no|did .* (dies|late)"
+)
 # Answers to a command that was tried and changed nothing.
 VAIN = ("none", "idle", "end", "unfinished")
 
@@ -72,7 +76,7 @@ class Driver:
         check_report(self.run, name)
 
     def try_out(self, commands, tried=()):
-        """Adds commands, and has them answered. Those of the tried ones that changed nothing go out again. Whether any stays."""
+        """Adds commands, and has them answered. Tried ones that changed nothing are taken out. Whether any stays."""
         old, new = self.session.commands, list(commands)
         if len(old) + len(new) > MOST_COMMANDS:
             raise Wrong(f"the session would have more than {MOST_COMMANDS} commands")
@@ -80,8 +84,9 @@ class Driver:
         texts = printed_by(self.program, self.text().encode())
         if len(texts) < len(self.session.commands):
             raise Wrong(f"{self.program}: it answers fewer commands than it was given")
-        kept = [at for at, text in enumerate(texts) if not (len(old) <= at < len(old) + len(new) and self.vain(text, tried))]
-        self.session.commands = [self.session.commands[at] for at in kept if at < len(old) + len(new)]
+        first, behind = len(old), len(self.session.commands)
+        kept = [at for at, text in enumerate(texts) if not (first <= at < behind and self.vain(text, tried))]
+        self.session.commands = [self.session.commands[at] for at in kept if at < behind]
         self.read([texts[at] for at in kept], self.program)
         return len(self.session.commands) > len(old)
 
@@ -101,7 +106,8 @@ class Driver:
         """The messages that were sent and not received, in the order of sending."""
         front = self.front()
         received = {line.takes for line in front if line.takes is not None and line.first() != "down"}
-        return [sent for line in front for sent in line.sends if sent not in received and command_of(sent) not in self.lost]
+        sent = [message for line in front for message in line.sends if message not in received]
+        return [message for message in sent if command_of(message) not in self.lost]
 
     def waiting(self):
         """The undecided attempts that nothing is under way for, and since whose last line another one ended."""
@@ -120,7 +126,7 @@ class Driver:
         return sum(sent[:2] == ("from", site) for line in self.front() for sent in line.sends)
 
     def round(self):
-        """One round: all that can be received now is, or else those that wait are sent again. Whether there was anything to do."""
+        """Receives all that can be received now, or else sends those again that wait. Whether there was any."""
         state = self.state()
         commands, tried = [], []
         following = {site: self.count_from(site) for site in self.session.sites}
@@ -208,23 +214,41 @@ def local_commands(driver, state):
     """The next step of each live local transaction, or its commit."""
     for tx, attempt in driver.live_locals().items():
         home, steps = driver.session.locals[tx]
-        done = sum(line.attempt == attempt and line.word == "step" and line.first() in ("read", "wrote") for line in driver.front())
-        waits = f", which was told to wait for {state.sites[home].waits[attempt]}" if attempt in state.sites[home].waits else ""
-        yield f"step {tx}: step {done + 1} of {attempt}{waits}" if done < len(steps) else f"commit {tx}: {attempt} has no step left"
+        own = [line for line in driver.front() if line.word == "step" and line.attempt == attempt]
+        done = sum(line.first() in ("read", "wrote") for line in own)
+        waits = state.sites[home].waits.get(attempt)
+        if done < len(steps):
+            why = f", which was told to wait for {waits}" if waits else ""
+            yield f"step {tx}: step {done + 1} of {attempt}{why}"
+        else:
+            yield f"commit {tx}: {attempt} has no step left"
+
+
+def check_lost(session, commands):
+    """Each command names a message."""
+    for command in commands:
+        words = command.split(" ")
+        try:
+            if words[0] not in ("give", "take"):
+                raise Bad("it is no give or take")
+            session.check_command(words)
+        except Bad as why:
+            raise Wrong(f"{command!r}: no message is named so: {why.reason}") from None
 
 
 def main():
     reader = argparse.ArgumentParser(description=__doc__, formatter_class=argparse.RawDescriptionHelpFormatter)
     reader.add_argument("session", metavar="SESSION", help="a scenario, with or without commands")
     reader.add_argument("output", metavar="OUTPUT", nargs="?", help="what the program printed for it; for --next alone")
-    reader.add_argument("--program", metavar="PROGRAM", default=str(PROGRAM), help="the program; ./mdbfed of this tree where none is named")
+    reader.add_argument("--program", metavar="PROGRAM", default=str(PROGRAM), help="else ./mdbfed of this tree")
     reader.add_argument("--next", action="store_true", help="print the commands that may come next, and add none")
-    reader.add_argument("--all", action="store_true", help="wake all actors, and begin each transaction that wasn't begun")
-    reader.add_argument("--lose", metavar="COMMAND", action="append", default=[], help='a message that is lost, as "give 2 4"')
+    reader.add_argument("--all", action="store_true", help="wake all, and begin each transaction that wasn't begun")
+    reader.add_argument("--lose", metavar="COMMAND", action="append", default=[], help='a lost message, as "give 2 4"')
     words = reader.parse_args()
     if words.output and not words.next:
         reader.error("an OUTPUT is of use with --next alone")
     driver = Driver(words.session, words.program, words.lose)
+    check_lost(driver.session, words.lose)
     if words.output:
         driver.read(texts_of(words.output), words.output)
     else:

@@ -1,12 +1,13 @@
 #!/usr/bin/env python3
 """Prints the run that objects of JSON give, one object on each line, as tools/to_json.py writes them.
 
-An object of a line needs `command`, `answer` and `sends`, a list of objects with `way`, `site` and `place`. An object of the report needs
-`report`, its first word, and `words`, those after it. Of the other fields `line`, `word` and `actor` are compared with the command where they
-stand, and all else is passed over. Each line must have the form that the program prints (docs/FORMATS.md), and the report must end the run.
+An object of a line needs `command`, `answer` and `sends`, a list of objects with `way`, `site` and `place`. An object
+of the report needs `report`, its first word, and `words`, those after it. Of the other fields `line`, `word` and
+`actor` are compared with the command where they stand, and all else is passed over. Each line must have the form that
+the program prints (docs/FORMATS.md), and the report must end the run.
 
-With --audit SCENARIO the scenario's lines and the line `printed` stand before the run: this is an input of `mdbfed audit`. SCENARIO may have
-commands, which are left out.
+With --audit SCENARIO the scenario's lines and the line `printed` stand before the run: this is an input of `mdbfed
+audit`. SCENARIO may have commands, which are left out.
 
 example: tools/to_json.py examples/transfer.fed examples/transfer.out | tools/from_json.py -
 """

@@ -1,5 +1,5 @@
-"""The disks of a run, line by line, derived from the session and the printed lines by the rules (docs/RULES.md, sections 3 to 9). A stop
-prints how many records it keeps, and this is compared with what stands on the disk here; so is each number that a commit prints."""
+"""The disks of a run, line by line, derived from the session and the printed lines by the rules (docs/RULES.md,
+sections 3 to 9). How many records a stop keeps and which number a commit prints are compared with what is derived."""
 import mdbrecords
 from mdbmessages import Messages
 from mdbstate import State
@@ -26,14 +26,14 @@ def writes_of(steps, reads, home):
 
 
 class Disk:
-    """The bytes of an actor's disk, how many of them are synced, and its records. `armed` is what a trip leaves: calls and the cut."""
+    """The bytes of an actor's disk, how many are synced, and its records. `armed` has a trip's calls and its cut."""
 
     def __init__(self, kinds):
         self.kinds, self.data, self.synced, self.armed = kinds, b"", 0, None
         self.records, self.frames = [], []
 
     def call(self, name, *record):
-        """Makes a call. Whether the actor stops behind it."""
+        """Makes a call. Whether the actor stops after it."""
         if name == "append":
             self.records.append(record)
             self.frames.append(mdbrecords.frame_of(mdbrecords.payload_of(*record, self.kinds)))
@@ -115,7 +115,8 @@ class SiteDisk(Disk):
             return forced("Local", self.local(line))
         if line.word == "give" and first in ("settles", "stopped") and line.takes in messages.decisions:
             return self.ended(attempt, messages.decisions[line.takes])
-        if line.word == "give" and (first == "stopped" or first == "votes" and " yes " in line.answer) and attempt not in site.doubts():
+        seals = first == "stopped" or first == "votes" and " yes " in line.answer
+        if line.word == "give" and seals and attempt not in site.doubts():
             return forced("Prepared", self.prepared(line, site, messages))
         if line.word == "check" and first in ("checked", "stopped"):
             return [*forced("Checkpoint", self.sum()), ("trim",)]
@@ -205,8 +206,9 @@ class CoordinatorDisk(Disk):
         """A line of the coordinator draws nothing."""
 
     def participants(self, attempt):
-        sites = self.run.session.sites
-        return [(site, sites[site][1]) for site in sorted({site for site, _ in self.run.session.globals[int(attempt.split(".")[0])]})]
+        """The sites of an attempt's program, rising, with their protocols."""
+        steps = self.run.session.globals[pair_of(attempt)[0]]
+        return [(site, self.run.session.sites[site][1]) for site in sorted({site for site, _ in steps})]
 
     def calls(self, line, coordinator, messages):
         """The disk calls of a line, those included that a stop left out."""
@@ -221,9 +223,12 @@ class CoordinatorDisk(Disk):
             return self.record("Initiation", attempt, messages)
         if line.answer.startswith("decides commit"):
             return self.record("Commit", attempt, messages)
-        if first == "decides" and not line.answer.endswith("forgets") and {it for _, it in self.participants(attempt)} == {"nothing"}:
+        if first == "decides" and not line.answer.endswith("forgets") and self.protocols(attempt) == {"nothing"}:
             return self.record("Abort", attempt, messages)
         return self.record("End", attempt, messages) if first == "forgets" else []
+
+    def protocols(self, attempt):
+        return {protocol for _, protocol in self.participants(attempt)}
 
     def record(self, kind, attempt, messages):
         said = {"attempt": pair_of(attempt)}
@@ -277,13 +282,13 @@ class CoordinatorDisk(Disk):
                 opened[said["attempt"]] = said["participants"]
         for pair in committed:
             opened.setdefault(pair, [(site, self.run.session.sites[site][1]) for site, _ in committed[pair]])
-        forgotten = [pair for pair, sites in opened.items() if pair in committed and {it for _, it in sites} == {"commit"}]
-        left = sorted(pair for pair in opened if pair not in ended and pair not in forgotten)
+        presumed = {pair for pair in committed if all(protocol == "commit" for _, protocol in opened[pair])}
+        left = sorted(opened.keys() - ended - presumed)
         return {"open": [(pair, opened[pair]) for pair in left], "committed": sorted(committed.items())}
 
 
 class Disks:
-    """The disks of all actors behind the first lines of a run. `costs` has, for each line, its calls that were made."""
+    """The disks of all actors after the first lines of a run. `costs` has the calls that each line made."""
 
     def __init__(self, run):
         self.run, self.state, self.messages, self.costs = run, State(run), Messages(run), []
@@ -326,7 +331,8 @@ class Disks:
     @staticmethod
     def check(line, count):
         if line.answer != f"stopped kept {count}":
-            raise Wrong(f"line {line.number}: `{line.answer}`, but by the lines before it the actor stops and keeps {count} records")
+            due = f"by the lines before it the actor stops and keeps {count} records"
+            raise Wrong(f"line {line.number}: `{line.answer}`, but {due}")
 
     def go_to(self, count):
         while self.state.behind < count:

@@ -1,4 +1,4 @@
-"""What each message of a run says, derived from the printed lines by the rules (docs/RULES.md, sections 7 to 9). The tools share it."""
+"""What each message of a run says, derived from the printed lines by the rules (docs/RULES.md, sections 7 to 9)."""
 import re
 
 # The answers of the coordinator that say a decision.
@@ -6,7 +6,7 @@ DECISION = re.compile(r"(?:decides|answers|presumes) (commit|abort)")
 
 
 class Asked:
-    """What the coordinator has asked for an attempt: the steps that were answered, and what is outstanding at each site."""
+    """What was asked for an attempt: the steps that were answered, and what is outstanding at each site."""
 
     def __init__(self, steps):
         self.steps, self.finished, self.reads, self.decision, self.lost = steps, 0, [], None, False

@@ -1,4 +1,5 @@
-"""Spells the records of journals and their frames (docs/FORMATS.md, section 4). Records are as mdbjournal.py reads them: a kind and its fields."""
+"""Spells the records of journals and their frames (docs/FORMATS.md, section 4). A record is its kind and its fields, as
+mdbjournal.py reads it."""
 import hashlib
 
 from mdbjournal import DECISIONS, ENGINES, PROTOCOLS
@@ -40,14 +41,16 @@ def set_up(it):
 
 
 def prepared(it):
-    return attempt(it["attempt"]) + number(4, it["epoch"]) + number(8, it["number"]) + number(8, it["ticket"]) + writes(it["writes"])
+    head = attempt(it["attempt"]) + number(4, it["epoch"]) + number(8, it["number"]) + number(8, it["ticket"])
+    return head + writes(it["writes"])
 
 
 def site_sum(it):
     """A site's Checkpoint."""
     head = set_up(it) + number(4, it["epoch"]) + number(8, it["counter"]) + number(8, it["ticket"])
     owner = b"\0" if it["owner"] is None else b"\1" + attempt(it["owner"])
-    return head + owner + writes(it["rows"]) + listed(2, map(attempt, it["locals"])) + listed(2, map(prepared, it["doubtful"]))
+    lists = listed(2, map(attempt, it["locals"])) + listed(2, map(prepared, it["doubtful"]))
+    return head + owner + writes(it["rows"]) + lists
 
 
 def coordinator_sum(it):
