@@ -244,6 +244,12 @@ def check_drive_goes_on():
         require_same(driven, head + "".join(commands[:7]), "drive.py of one that waits")
         driven = called(0, "drive.py", fed, "--program", program, "--all")
         require_same(driven, head + "".join(commands), "drive.py --all of one that waits")
+        paths = EXAMPLES / "cut_decision.fed", EXAMPLES / "cut_decision.out"
+        program = program_at(folder, paths[1].read_text())
+        fed, out = front_of(paths, 20, folder)
+        commands = [line.split(" =>")[0] + "\n" for line in paths[1].read_text().splitlines() if " =>" in line]
+        wanted = fed.read_text().partition("go 1\n")[0] + "".join(commands)
+        require_same(called(0, "drive.py", fed, "--program", program, "--all"), wanted, "drive.py --all of a lost decision")
         paths = EXAMPLES / "stopped_commit.fed", EXAMPLES / "stopped_commit.out"
         program = program_at(folder, paths[1].read_text())
         fed, out = front_of(paths, 4, folder)

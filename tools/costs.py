@@ -41,7 +41,7 @@ def added(costs, key, cost):
 
 
 def costs_of(run, count):
-    """What each attempt costs in the first lines. All else is under None, with two records and a sync of each set-up."""
+    """What each attempt costs in the first lines. All else is under None, with each set-up: two records, a sync."""
     disks = Disks(run).go_to(count)
     costs = {None: [0, 2 * len(run.session.sites), len(run.session.sites)]}
     for line, calls in zip(run.lines, disks.costs):

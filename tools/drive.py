@@ -8,8 +8,9 @@ one ended since.
 
 A lost message must be named, else it is received after all: --lose "give 2 4" leaves that message where it is.
 Messages to an actor that is down stay there; with --all it comes `back` first. --all also begins each declared
-transaction that was not begun, one after the other by their numbers, and finishes the local ones. The program closes
-the session by itself, and no commands are written for that.
+transaction that was not begun, one after the other by their numbers, finishes the local ones, sends decisions again
+whose acknowledgement is missing after a start, and has each site ask that is in doubt. The program closes the session
+by itself, and no commands are written for that.
 
 With --next nothing is added: the commands that may come next are printed, each with what it is about. Where the
 program's output for the session is named as well, the program isn't called.
@@ -57,11 +58,13 @@ def lines_of(data, name):
 
 
 class Driver:
-    """A session that grows by commands. `run` is what the program printed for those so far."""
+    """A session that grows by commands. `run` is what the program printed for those so far. `to_end`: also what a stop
+    left is finished."""
 
     def __init__(self, path, program, lost):
         data = bytes_of(path)
         self.session, self.program, self.lost, self.run = session_of(data, path), program, lost, None
+        self.to_end = False
         self.scenario = scenario_lines(data)
         self.session.commands = self.session.commands or []
 
@@ -110,7 +113,8 @@ class Driver:
         return [message for message in sent if command_of(message) not in self.lost]
 
     def waiting(self):
-        """The undecided attempts that nothing is under way for, and since whose last line another one ended."""
+        """The attempts that nothing is under way for, and since whose last line another one ended or a start came: the
+        undecided ones, and with `to_end` also those that aren't forgotten."""
         last, ended = {}, 0
         for line in self.front():
             last[line.attempt] = line.number
@@ -118,8 +122,15 @@ class Driver:
                 ended = line.number
         under_way = {self.run.sent[sent].attempt for sent in self.pending()}
         known = self.state().coordinator.known
-        undecided = [name for name in attempts(known) if known[name]["decision"] is None]
-        return [name for name in undecided if name not in under_way and last[name] < ended]
+        due = [name for name in attempts(known) if self.to_end or known[name]["decision"] is None]
+        return [name for name in due if name not in under_way and last[name] < ended]
+
+    def doubts(self, state):
+        """The inquiries about attempts that a site is in doubt of, nothing is under way for, and the coordinator doesn't
+        know."""
+        other = {self.run.sent[sent].attempt for sent in self.pending()} | set(state.coordinator.known)
+        sites = [site for site in state.sites.values() if site.up]
+        return [f"ask {site.number} {name}" for site in sites for name in attempts(site.doubts()) if name not in other]
 
     def count_from(self, site):
         """How many messages a site has sent: the number of its next one."""
@@ -140,6 +151,7 @@ class Driver:
                 following[site] += 1
         if not commands and state.coordinator.up:
             commands = [f"again {attempt}" for attempt in self.waiting()]
+            commands = commands or (self.doubts(state) if self.to_end else [])
         return bool(commands) and self.try_out(commands, tried)
 
     def quiet(self):
@@ -174,6 +186,7 @@ class Driver:
 
     def all(self):
         """Wakes all, begins what wasn't begun, and finishes it as far as it goes."""
+        self.to_end = True
         self.wake()
         self.quiet()
         for tx in self.unbegun():

@@ -52,7 +52,7 @@ def main():
     reader.add_argument("output", metavar="OUTPUT", help="what the program printed for it")
     reader.add_argument("line", metavar="LINE", help="a line of the output, from 1; 0 is the set-up, `end` the last")
     reader.add_argument("folder", metavar="FOLDER", help="the folder for the files disk0 to disk8")
-    reader.add_argument("--cut", metavar="N", default=str(ALL), help="how many bytes after its last sync each disk keeps")
+    reader.add_argument("--cut", metavar="N", default=str(ALL), help="how many bytes after its last sync a disk keeps")
     words = reader.parse_args()
     run = read_run(words.session, words.output)
     most = len(run.lines)
