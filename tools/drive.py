@@ -31,7 +31,7 @@ from mdbtext import MOST_COMMANDS, Bad, Wrong, bytes_of, told
 PROGRAM = pathlib.Path(__file__).resolve().parent.parent / "mdbfed"
 # After such an answer another attempt may go on.
 ENDED = re.compile(
-    "settles|unheld|committed|aborted|dropped|decides|forgets|invalid|stopped|up|votes .* no|did .* (dies|late)"
+    "settles|unheld|committed|aborted|dropped|decides|forgets|invalid|stopped|up|dies|late|votes .* no|did .* (dies|late)"
 )
 # Answers to a command that was tried and changed nothing.
 VAIN = ("none", "idle", "end", "unfinished")
@@ -123,7 +123,7 @@ class Driver:
         under_way = {self.run.sent[sent].attempt for sent in self.pending()}
         known = self.state().coordinator.known
         due = [name for name in attempts(known) if self.to_end or known[name]["decision"] is None]
-        return [name for name in due if name not in under_way and last[name] < ended]
+        return [name for name in due if name not in under_way and last.get(name, 0) < ended]
 
     def doubts(self, state):
         """The inquiries about attempts that a site is in doubt of, nothing is under way for, and the coordinator doesn't
