@@ -31,7 +31,8 @@ from mdbtext import MOST_COMMANDS, Bad, Wrong, bytes_of, told
 PROGRAM = pathlib.Path(__file__).resolve().parent.parent / "mdbfed"
 # After such an answer another attempt may go on.
 ENDED = re.compile(
-    "settles|unheld|committed|aborted|dropped|decides|forgets|invalid|stopped|up|dies|late|votes .* no|did .* (dies|late)"
+    "settles|unheld|committed|aborted|dropped|decides|forgets|invalid|stopped|up|dies|late|"
+    "votes .* no|did .* (dies|late)"
 )
 # Answers to a command that was tried and changed nothing.
 VAIN = ("none", "idle", "end", "unfinished")

@@ -185,7 +185,7 @@ class Sum:
             self.found["counter"] = max(self.found["counter"], said["number"])
 
     def install(self, said):
-        """Of several writes of a key the one with the greatest number counts."""
+        """The write of a key with the greatest number counts."""
         for key, value in said["writes"]:
             if self.by.get(key, 0) < said["number"]:
                 self.rows[key], self.by[key] = value, said["number"]
