@@ -7,6 +7,7 @@
   why.py       finds nothing wrong in them, finds each kind of bad line in a text that has it, and says what files of other kinds are
   due.py       shows the line that is due, with a stand-in for the program
   made.py      prints examples/made.run again
+  from_json.py, drive.py, costs.py, leave.py  as check_writers.py says
   journal.py   finds the damaged frame of each damaged journal, and no other, and nobody in doubt behind a start; names the
                files to doubt where journals contradict each other, and none of journals that a session leaves
 
@@ -30,6 +31,7 @@ import to_json
 import why
 from check_folders import check_doubts
 from check_inputs import check_due, check_why
+from check_writers import WRITER_CHECKS, check_writers
 from mdbchecks import TOP, Fault, called, require
 
 # A text for each reason, and the line that is bad.
@@ -80,7 +82,7 @@ def check_session(path):
     """One session by all tools that read runs."""
     try:
         run = mdblines.read_run(str(path), str(path.with_suffix(".out")))
-        for check in (check_chart, check_json, check_standing):
+        for check in (check_chart, check_json, check_standing, check_writers):
             check(run)
         require(not list(why.remarks(run.session, path.read_bytes())), "why.py finds something")
     except (Fault, mdbtext.Wrong) as fault:
@@ -139,6 +141,8 @@ def main():
         for session in sessions:
             check_session(session)
         for check in (check_calls, check_bad_texts, check_due, check_why, check_made, check_journals, check_doubts):
+            check()
+        for check in WRITER_CHECKS:
             check()
     except Fault as why:
         sys.exit(f"check.py: {why}")

@@ -191,7 +191,17 @@ def texts_of(path):
 
 def session_at(path):
     """The session of a file."""
-    data = bytes_of(path)
+    return session_of(bytes_of(path), path)
+
+
+def scenario_lines(data):
+    """The lines of a session before its commands."""
+    lines = data.decode("ascii").split("\n")[:-1]
+    return lines[: lines.index("commands")] if "commands" in lines else lines
+
+
+def session_of(data, path):
+    """The session that the bytes of a file spell."""
     try:
         return read_session(data)
     except BadLine as why:
