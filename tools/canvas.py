@@ -1,0 +1,82 @@
+"""The parts of a picture (SVG) and their colours. chart.py and chart_orders.py draw with it."""
+import math
+
+LETTER, SMALL, GAP = 7.3, 6.1, 24
+INK, QUIET, PALE, FAINT, LOST, GOOD, BAD, LOG = "#1b2733", "#7d8a96", "#b9c2ca", "#eceff2", "#b8621b", "#2e7d4f", "#b3372f", "#7a5a10"
+# The colours of transactions, which come again where there are more of them.
+COLOURS = ("#2f6db3", "#8a4fb3", "#1f8a84", "#c05a80", "#6a7d1f", "#4a4fc0", "#9a6a2a", "#3f8f3f")
+
+
+def colours(transactions):
+    """A colour for each transaction."""
+    return {number: COLOURS[at % len(COLOURS)] for at, number in enumerate(sorted(transactions))}
+
+
+class Canvas:
+    """The parts of a drawing, in the order in which they cover each other."""
+
+    def __init__(self):
+        self.parts = []
+
+    def text(self, x, y, text, colour=INK, anchor="start", weight="normal", size=12):
+        sized = "" if size == 12 else f' font-size="{size}"'
+        self.parts.append(
+            f'<text x="{x:.0f}" y="{y:.0f}" fill="{colour}" text-anchor="{anchor}" font-weight="{weight}"{sized} '
+            f'stroke="white" stroke-width="4" paint-order="stroke">{text}</text>'
+        )
+
+    def line(self, x1, y1, x2, y2, colour, more=""):
+        self.parts.append(f'<line x1="{x1:.0f}" y1="{y1:.0f}" x2="{x2:.0f}" y2="{y2:.0f}" stroke="{colour}" {more}/>')
+
+    def arrow(self, x1, y1, x2, y2, colour, more=""):
+        self.line(x1, y1, x2, y2, colour, f'marker-end="url(#{colour[1:]})" {more}')
+
+    def box(self, x, y, width, height, fill, more=""):
+        self.parts.append(f'<rect x="{x:.0f}" y="{y:.0f}" width="{width:.0f}" height="{height:.0f}" fill="{fill}" {more}/>')
+
+    def diamond(self, x, y, colour):
+        self.parts.append(f'<path d="M{x - 7:.0f} {y:.0f} l7 -7 l7 7 l-7 7 z" fill="{colour}"/>')
+
+    def dot(self, x, y, colour):
+        self.parts.append(f'<circle cx="{x:.0f}" cy="{y:.0f}" r="4" fill="{colour}"/>')
+
+    def curve(self, points, colour, more=""):
+        """An arrow from the first point to the third, bent towards the second."""
+        (x1, y1), (x2, y2), (x3, y3) = points
+        path = f"M{x1:.0f} {y1:.0f} Q{x2:.0f} {y2:.0f} {x3:.0f} {y3:.0f}"
+        self.parts.append(f'<path d="{path}" fill="none" stroke="{colour}" marker-end="url(#{colour[1:]})" {more}/>')
+
+    def ring(self, nodes, edges, size, top, marked):
+        """The nodes in a circle, and an edge with its words from one to another; edges between the same two share one arrow."""
+        (radius, half), words = size, {}
+        for first, second, word in edges:
+            words.setdefault((first, second), []).append(word)
+        middle = GAP + 80 + radius, top + half
+        turns = {node: 2 * math.pi * at / len(nodes) - math.pi for at, node in enumerate(nodes)}
+        spots = {node: (middle[0] + radius * math.cos(turn), middle[1] + radius * math.sin(turn)) for node, turn in turns.items()}
+        for (first, second), shared in words.items():
+            self.bend(spots[first], spots[second], ", ".join(shared))
+        for node, (x, y) in spots.items():
+            self.text(x, y + 4, node, BAD if node in marked else INK, "middle", "bold")
+
+    def bend(self, first, second, word):
+        """An edge of a ring, bent to its right, so that the one back stands apart."""
+        (x1, y1), (x2, y2) = first, second
+        length = math.dist(first, second) or 1
+        bent = (x1 + x2) / 2 + 30 * (y1 - y2) / length, (y1 + y2) / 2 + 30 * (x2 - x1) / length
+        ends = [(x + 22 * (bent[0] - x) / math.dist(bent, (x, y)), y + 22 * (bent[1] - y) / math.dist(bent, (x, y))) for x, y in (first, second)]
+        self.curve((ends[0], bent, ends[1]), QUIET)
+        self.text(bent[0], bent[1] + 4, word, QUIET, "middle")
+
+    def picture(self, width, height):
+        """The whole picture, with a head for the arrows of each colour."""
+        heads = "".join(
+            f'<marker id="{colour[1:]}" viewBox="0 0 8 8" refX="8" refY="4" markerWidth="7" markerHeight="7" orient="auto">'
+            f'<path d="M0 0 L8 4 L0 8 z" fill="{colour}"/></marker>'
+            for colour in (*COLOURS, QUIET, BAD, INK)
+        )
+        head = (
+            f'<svg xmlns="http://www.w3.org/2000/svg" width="{width:.0f}" height="{height:.0f}" font-family="monospace" font-size="12">\n'
+            f'<defs>{heads}</defs>\n<rect width="100%" height="100%" fill="white"/>\n'
+        )
+        return head + "\n".join(self.parts) + "\n</svg>\n"

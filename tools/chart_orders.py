@@ -1,0 +1,1 @@
+class OrdersChart: pass
