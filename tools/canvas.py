@@ -1,7 +1,8 @@
 """The parts of a picture (SVG) and their colours. chart.py and chart_orders.py draw with it."""
 import math
+from xml.sax.saxutils import escape
 
-LETTER, SMALL, GAP = 7.3, 6.1, 24
+LETTER, SMALL, GAP, MOST_PROGRAMS = 7.3, 6.1, 24, 16
 INK, QUIET, PALE, FAINT, LOST, GOOD, BAD, LOG = "#1b2733", "#7d8a96", "#b9c2ca", "#eceff2", "#b8621b", "#2e7d4f", "#b3372f", "#7a5a10"
 # The colours of transactions, which come again where there are more of them.
 COLOURS = ("#2f6db3", "#8a4fb3", "#1f8a84", "#c05a80", "#6a7d1f", "#4a4fc0", "#9a6a2a", "#3f8f3f")
@@ -10,6 +11,17 @@ COLOURS = ("#2f6db3", "#8a4fb3", "#1f8a84", "#c05a80", "#6a7d1f", "#4a4fc0", "#9
 def colours(transactions):
     """A colour for each transaction."""
     return {number: COLOURS[at % len(COLOURS)] for at, number in enumerate(sorted(transactions))}
+
+
+def program_texts(session, numbers, colour_of):
+    """Transactions, each with its program as a text and its colour."""
+    texts = []
+    for number in numbers:
+        home, steps = session.locals.get(number, (None, session.globals.get(number, [])))
+        acts = " ".join((f"{site}/" if home is None else "") + ":".join(map(str, act)) for site, act in steps)
+        kind = "global" if home is None else f"local at site {home}"
+        texts.append((f"{number}, {kind}: {acts}", colour_of.get(number, INK)))
+    return texts
 
 
 class Canvas:
@@ -45,6 +57,21 @@ class Canvas:
         (x1, y1), (x2, y2), (x3, y3) = points
         path = f"M{x1:.0f} {y1:.0f} Q{x2:.0f} {y2:.0f} {x3:.0f} {y3:.0f}"
         self.parts.append(f'<path d="{path}" fill="none" stroke="{colour}" marker-end="url(#{colour[1:]})" {more}/>')
+
+    def draw_programs(self, texts, width, y):
+        """A line for each of the first transactions, from a height on; answers the height below them."""
+        most = int((width - 2 * GAP - 18) / LETTER)
+        for text, colour in texts[:MOST_PROGRAMS]:
+            self.box(GAP, y - 9, 10, 10, colour)
+            self.text(GAP + 18, y, escape(text if len(text) <= most else text[: most - 3] + " .."), colour)
+            y += 16
+        if len(texts) > MOST_PROGRAMS:
+            self.text(GAP + 18, y, f"and {len(texts) - MOST_PROGRAMS} transactions more", QUIET)
+        return 46 + self.programs_height(texts)
+
+    @staticmethod
+    def programs_height(texts):
+        return 16 * min(len(texts), MOST_PROGRAMS + 1)
 
     def ring(self, nodes, edges, size, top, marked):
         """The nodes in a circle, and an edge with its words from one to another; edges between the same two share one arrow."""

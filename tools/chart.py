@@ -31,13 +31,13 @@ import re
 from xml.sax.saxutils import escape
 
 import mdbanswers
-from canvas import BAD, FAINT, GAP, GOOD, INK, LETTER, LOG, LOST, PALE, QUIET, SMALL, Canvas, colours
+from canvas import BAD, FAINT, GAP, GOOD, INK, LETTER, LOG, LOST, PALE, QUIET, SMALL, Canvas, colours, program_texts
 from chart_orders import OrdersChart
 from mdbcourse import Course
 from mdblines import read_run
 from mdbtext import Wrong, told
 
-ROW, PAGE, AGAIN, LONGEST, LEAST_WIDTH, MOST_PROGRAMS = 30, 40, 54, 200, 900, 16
+ROW, PAGE, AGAIN, LONGEST, LEAST_WIDTH = 30, 40, 54, 200, 900
 BAR_KINDS = {"live": (3, 0.45), "doubt": (6, 1), "undecided": (3, 0.45), "known": (6, 0)}
 
 
@@ -146,32 +146,27 @@ class Chart(Canvas):
     # What stands above the lanes.
 
     def programs(self):
-        """The transactions that are drawn, each with its number, its text and its colour."""
+        """The transactions that are drawn."""
         numbers = sorted({int(line.attempt.split(".")[0]) for line in self.lines if line.attempt})
-        texts = []
-        for number in numbers:
-            home, steps = self.run.session.locals.get(number, (None, self.run.session.globals.get(number, [])))
-            acts = " ".join((f"{site}/" if home is None else "") + ":".join(map(str, act)) for site, act in steps)
-            texts.append((number, f"{number}, {'global' if home is None else f'local at site {home}'}: {acts}", self.colours.get(number, INK)))
-        return texts
+        return program_texts(self.run.session, numbers, self.colours)
 
     def legend(self):
         """The signs that this chart has, each as what draws it and its words."""
         kinds, lines = {bar.kind for bar in self.bars}, self.lines
-        colour = self.programs()[0][2] if self.programs() else INK
+        colour = self.programs()[0][1] if self.programs() else INK
         crossed = [line for line in lines if self.missing(line)[0]]
         signs = [
             (any(line.sends for line in lines), lambda x, y: self.arrow(x, y, x + 26, y, colour), "message"),
             (any(self.look(line)[0] == QUIET for line in lines if line.takes), lambda x, y: self.arrow(x, y, x + 26, y, QUIET), "it doesn't count"),
             (any(self.look(line)[1] for line in lines if line.takes), self.sign_dashed, "its actor is down or crashes"),
-            (crossed, lambda x, y: self.text(x + 8, y + 4, "×", LOST), "message that nobody takes: lost"),
+            (crossed, lambda x, y: self.text(x + 18, y + 4, "×", LOST), "message that nobody takes: lost"),
             ("live" in kinds, lambda x, y: self.sign_bar(x, y, "live", colour), "live at the site"),
             ("doubt" in kinds, lambda x, y: self.sign_bar(x, y, "doubt", colour), "in doubt: prepared, and not decided there"),
             ("undecided" in kinds, lambda x, y: self.sign_bar(x, y, "undecided", colour), "coordinator: undecided"),
             ("known" in kinds, lambda x, y: self.sign_bar(x, y, "known", colour), "coordinator: decided, not forgotten"),
-            (any(line.first() == "decides" for line in lines), lambda x, y: self.diamond(x + 12, y, GOOD), "decision"),
+            (any(line.first() == "decides" for line in lines), lambda x, y: self.diamond(x + 14, y, GOOD), "decision"),
             (any(line.stops() for line in lines), self.sign_crash, "crash, and down until the recovery"),
-            (any("log " in self.note(line) for line in lines), lambda x, y: self.text(x, y + 3, "log", LOG, size=10), "record written by this line"),
+            (any("log " in self.note(line) for line in lines), lambda x, y: self.text(x + 10, y + 3, "log", LOG, size=10), "record written by this line"),
         ]
         return [(draw, words) for holds, draw, words in signs if holds]
 
@@ -179,11 +174,11 @@ class Chart(Canvas):
         self.arrow(x, y, x + 26, y, BAD, 'stroke-dasharray="6 4"')
 
     def sign_crash(self, x, y):
-        self.box(x + 6, y - 8, 12, 16, "#d5d9dd")
-        self.box(x + 7, y - 8, 10, 10, BAD)
+        self.box(x + 16, y - 8, 12, 16, "#d5d9dd")
+        self.box(x + 17, y - 8, 10, 10, BAD)
 
     def sign_bar(self, x, y, kind, colour):
-        self.draw_bar_at(x + 10, y - 7, 14, kind, colour)
+        self.draw_bar_at(x + 24, y - 7, 14, kind, colour)
 
     def legend_places(self):
         """The place of each sign: a row of them is as wide as the chart."""
@@ -198,22 +193,14 @@ class Chart(Canvas):
 
     def head_height(self):
         """Title, programs, signs, and the heads of the lanes."""
-        programs = min(len(self.programs()), MOST_PROGRAMS + 1)
         signs = self.legend_places()
-        return 40 + 16 * programs + (20 * (signs[-1][1] + 1) + 8 if signs else 0) + 52
+        return 40 + self.programs_height(self.programs()) + (20 * (signs[-1][1] + 1) + 8 if signs else 0) + 52
 
     def draw_head(self):
         whole = len(self.lines) == len(self.run.lines)
         count = f"{len(self.lines)} lines" if whole else f"{len(self.lines)} of {len(self.run.lines)} lines"
         self.text(GAP, 26, escape(f"{self.title}: {count}" if self.title else count), weight="bold", size=15)
-        programs, y = self.programs(), 46
-        most = int((self.width - 2 * GAP - 18) / LETTER)
-        for at, (_, text, colour) in enumerate(programs[: MOST_PROGRAMS + 1]):
-            if at == MOST_PROGRAMS:
-                text, colour = f"and {len(programs) - at} transactions more", INK
-            self.box(GAP, y - 9, 10, 10, colour)
-            self.text(GAP + 18, y, escape(text if len(text) <= most else text[: most - 3] + " .."), colour)
-            y += 16
+        y = self.draw_programs(self.programs(), self.width, 46)
         for (draw, words), (x, row) in zip(self.legend(), self.legend_places()):
             draw(x, y + 20 * row + 4)
             self.text(x + 34, y + 20 * row + 8, words, QUIET)
@@ -283,7 +270,7 @@ class Chart(Canvas):
         if self.run.commanded is None or not self.lines or self.lines[-1].number <= self.run.commanded:
             return
         row = next(row for row, line in enumerate(self.lines) if line.number > self.run.commanded)
-        y = self.down(row) - ROW // 2
+        y = self.down(row) - ROW // 2 + 2
         self.line(GAP, y, self.width - GAP, y, INK, 'stroke-dasharray="2 4"')
         self.text(GAP, y - 2, "closing", INK, size=10)
 
@@ -314,7 +301,7 @@ class Chart(Canvas):
         way, site, _ = message
         x1, x2 = (self.places[actor] for actor in ((0, site) if way == "to" else (site, 0)))
         step, (colour, more) = 1 if x2 > x1 else -1, self.look(taken)
-        start, end = (x1, self.down(row) + 3), (x2 - 7 * step, self.down(self.rows[taken.number]) - 3)
+        start, end = (x1, self.down(row) + 4), (x2 - 7 * step, self.down(self.rows[taken.number]) - 4)
         self.arrow(*start, *end, colour, more)
         again = " again" if taken is not self.run.taken[message][0] else ""
         self.draw_name(self.names[message] + again, (start, end), way, site, colour)
@@ -325,7 +312,7 @@ class Chart(Canvas):
         near, slope = (y2, 1) if way == "to" else (y1, -1), abs((y2 - y1) / (x2 - x1))
         half = SMALL * len(name) / 2
         x = self.places[site] - self.beside(site) - 16 - half
-        lift = min(slope * (self.places[site] - x), 8)
+        lift = max(3, min(slope * (self.places[site] - x), 8))
         self.text(x, near[0] - near[1] * lift + 3, name, colour, "middle", size=10)
 
     def missing(self, line):
@@ -364,9 +351,9 @@ class Chart(Canvas):
             about = f' <tspan fill="{QUIET}" font-weight="normal">{unnamed(line)}</tspan>' if unnamed(line) else ""
             self.text(x + side, y + 4, escape(line.answer) + about, colour, anchor, "bold" if decides else "normal")
             if self.note(line):
-                self.text(x + side, y + 15, self.note(line), LOG, anchor, size=10)
+                self.text(x + side, y + 14, self.note(line), LOG, anchor, size=10)
             if self.course.broken and self.course.broken[0] == line.number:
-                self.text(x + side, y + 15, "contradicts the lines before it", BAD, anchor, size=10)
+                self.text(x + side, y + 14, "contradicts the lines before it", BAD, anchor, size=10)
 
     # What stands below the lanes.
 
