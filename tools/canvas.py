@@ -31,10 +31,10 @@ class Canvas:
         self.parts = []
 
     def text(self, x, y, text, colour=INK, anchor="start", weight="normal", size=12):
-        sized = "" if size == 12 else f' font-size="{size}"'
+        sized, around = ("", 4) if size == 12 else (f' font-size="{size}"', 3)
         self.parts.append(
             f'<text x="{x:.0f}" y="{y:.0f}" fill="{colour}" text-anchor="{anchor}" font-weight="{weight}"{sized} '
-            f'stroke="white" stroke-width="4" paint-order="stroke">{text}</text>'
+            f'stroke="white" stroke-width="{around}" paint-order="stroke">{text}</text>'
         )
 
     def line(self, x1, y1, x2, y2, colour, more=""):

@@ -37,7 +37,7 @@ from mdbcourse import Course
 from mdblines import read_run
 from mdbtext import Wrong, told
 
-ROW, PAGE, AGAIN, LONGEST, LEAST_WIDTH = 30, 40, 54, 200, 900
+ROW, PAGE, AGAIN, LONGEST, CLOSING, LEAST_WIDTH = 30, 40, 54, 200, 16, 900
 BAR_KINDS = {"live": (3, 0.45), "doubt": (6, 1), "undecided": (3, 0.45), "known": (6, 0)}
 
 
@@ -87,6 +87,7 @@ class Chart(Canvas):
         self.names, self.course = mdbanswers.Names(run).names, Course(run)
         self.colours = colours({*run.session.locals, *run.session.globals})
         self.bars = [bar for bar in self.course.bars if self.part(bar)]
+        self.closing = self.closing_row()
         self.lay_out()
         self.top = self.head_height()
         self.foot = self.down(len(lines) - 1) + ROW - 4 if lines else self.top
@@ -134,8 +135,8 @@ class Chart(Canvas):
         return self.colours.get(int(attempt.split(".")[0]), INK) if attempt else INK
 
     def down(self, row):
-        """The height of a row, below the heads that stand before it."""
-        return self.top + ROW * row + ROW // 2 + AGAIN * (row // PAGE)
+        """The height of a row, below the heads and the closing that stand before it."""
+        return self.top + ROW * row + ROW // 2 + AGAIN * (row // PAGE) + (CLOSING if row >= self.closing else 0)
 
     def part(self, bar):
         """The rows of a bar that are drawn: the first and the last, or None."""
@@ -266,13 +267,16 @@ class Chart(Canvas):
         fill = f'fill-opacity="{opacity}"' + (f' stroke="{colour}"' if not opacity else "")
         self.box(middle - width / 2, y, width, height, colour, fill)
 
+    def closing_row(self):
+        """The first row that no command asked for; behind the last one where there is none."""
+        commanded = len(self.run.lines) if self.run.commanded is None else self.run.commanded
+        return next((row for row, line in enumerate(self.lines) if line.number > commanded), len(self.lines))
+
     def draw_closing(self):
-        if self.run.commanded is None or not self.lines or self.lines[-1].number <= self.run.commanded:
-            return
-        row = next(row for row, line in enumerate(self.lines) if line.number > self.run.commanded)
-        y = self.down(row) - ROW // 2 + 2
-        self.line(GAP, y, self.width - GAP, y, INK, 'stroke-dasharray="2 4"')
-        self.text(GAP, y - 2, "closing", INK, size=10)
+        if self.closing < len(self.lines):
+            y = self.down(self.closing) - ROW // 2 - CLOSING + 4
+            self.line(GAP, y, self.width - GAP, y, INK, 'stroke-dasharray="2 4"')
+            self.text(GAP, y + 11, "closing", INK, size=10)
 
     # Messages.
 
@@ -304,27 +308,34 @@ class Chart(Canvas):
         start, end = (x1, self.down(row) + 4), (x2 - 7 * step, self.down(self.rows[taken.number]) - 4)
         self.arrow(*start, *end, colour, more)
         again = " again" if taken is not self.run.taken[message][0] else ""
-        self.draw_name(self.names[message] + again, (start, end), way, site, colour)
+        self.draw_name(self.names[message] + again, (start, end), self.rows[taken.number] if way == "to" else row, way, site, colour)
 
-    def draw_name(self, name, ends, way, site, colour):
-        """The name of a message on its arrow, at the left of the site's bars."""
+    def draw_name(self, name, ends, row, way, site, colour):
+        """The name of a message on its arrow, at the left of the site's bars; beside the arrow where it is steep and other lines are near."""
         (x1, y1), (x2, y2) = ends
-        near, slope = (y2, 1) if way == "to" else (y1, -1), abs((y2 - y1) / (x2 - x1))
-        half = SMALL * len(name) / 2
-        x = self.places[site] - self.beside(site) - 16 - half
-        lift = max(3, min(slope * (self.places[site] - x), 8))
-        self.text(x, near[0] - near[1] * lift + 3, name, colour, "middle", size=10)
+        y, step = (y2, -1) if way == "to" else (y1, 1)
+        x = self.places[site] - self.beside(site) - 16 - SMALL * len(name) / 2
+        lift = abs((y2 - y1) / (x2 - x1)) * (self.places[site] - x)
+        lift = max(3, min(lift, 8 + ROW * self.free(row, step, site)))
+        self.text(x, y + step * lift + 3, name, colour, "middle", size=10)
+
+    def free(self, row, step, site):
+        """How many rows next to this one, upwards or downwards, are free of this site's lines; heads end them."""
+        count = 0
+        while 0 <= row + step < len(self.lines) and (row + step) // PAGE == row // PAGE and self.lines[row + step].actor != site:
+            row, count = row + step, count + 1
+        return count
 
     def missing(self, line):
         """Of what a line sends: whether any is lost, what is said of that and of what rows that aren't drawn take, and its colour."""
-        lost = [message for message in line.sends if not self.run.taken.get(message)]
-        takers = {taken.number for message in line.sends for taken in self.run.taken.get(message, [])}
-        later = sorted(takers - set(self.rows))
-        words = []
+        lost, said = [message for message in line.sends if not self.run.taken.get(message)], []
         for name in dict.fromkeys(self.names[message] for message in lost):
             sites = [str(message[1]) for message in lost if self.names[message] == name]
-            words.append(f"{name} to {' '.join(sites)}" if line.actor == 0 else name)
-        said = ([f"× {', '.join(words)}"] if lost else []) + ([f"to line {' '.join(map(str, later))}"] if later else [])
+            said.append(f"× {name}" + (f" to site{'s' if sites[1:] else ''} {' '.join(sites)}" if line.actor == 0 else ""))
+        for message in line.sends:
+            later = [str(taken.number) for taken in self.run.taken.get(message, []) if taken.number not in self.rows]
+            if later:
+                said.append(f"{self.names[message]} to line {' '.join(later)}")
         return bool(lost), ", ".join(said), LOST if lost else QUIET
 
     def draw_losses(self):
@@ -351,9 +362,9 @@ class Chart(Canvas):
             about = f' <tspan fill="{QUIET}" font-weight="normal">{unnamed(line)}</tspan>' if unnamed(line) else ""
             self.text(x + side, y + 4, escape(line.answer) + about, colour, anchor, "bold" if decides else "normal")
             if self.note(line):
-                self.text(x + side, y + 14, self.note(line), LOG, anchor, size=10)
+                self.text(x + side, y + 15, self.note(line), LOG, anchor, size=10)
             if self.course.broken and self.course.broken[0] == line.number:
-                self.text(x + side, y + 14, "contradicts the lines before it", BAD, anchor, size=10)
+                self.text(x + side, y + 15, "contradicts the lines before it", BAD, anchor, size=10)
 
     # What stands below the lanes.
 

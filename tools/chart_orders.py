@@ -4,7 +4,7 @@ from xml.sax.saxutils import escape
 from canvas import BAD, FAINT, GAP, INK, LETTER, QUIET, Canvas, colours, program_texts
 from mdborders import Orders
 
-BOX, STEP, LEFT, LEAST_WIDTH = 56, 120, 190, 900
+BOX, STEP, LEFT, LEAST_WIDTH = 56, 120, 230, 900
 
 
 def shown_keys(keys):

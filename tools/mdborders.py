@@ -44,6 +44,8 @@ class Orders:
         self.refused = {line.attempt: line for line in run.lines if line.edges()}
 
     def follow(self, line, site, before):
+        if line.attempt is None:
+            return self.numbers[line.actor].crash() if line.stops() else None
         (live, doubtful, kept), numbers = before, self.numbers[line.actor]
         if line.word == "begin" and line.first() == "begun":
             numbers.begin(line.attempt)
