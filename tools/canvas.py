@@ -73,27 +73,30 @@ class Canvas:
     def programs_height(texts):
         return 16 * min(len(texts), MOST_PROGRAMS + 1)
 
-    def ring(self, nodes, edges, size, top, marked):
-        """The nodes in a circle, and an edge with its words from one to another; edges between the same two share one arrow."""
-        (radius, half), words = size, {}
+    def ring(self, nodes, edges, top, marked):
+        """The nodes in a circle, and an arrow with its words from one to another, one for all edges between the same two. Answers its height."""
+        radius, words = max(60, 22 * len(nodes)), {}
+        half = radius if len(nodes) > 2 else 30
         for first, second, word in edges:
             words.setdefault((first, second), []).append(word)
         middle = GAP + 80 + radius, top + half
         turns = {node: 2 * math.pi * at / len(nodes) - math.pi for at, node in enumerate(nodes)}
         spots = {node: (middle[0] + radius * math.cos(turn), middle[1] + radius * math.sin(turn)) for node, turn in turns.items()}
         for (first, second), shared in words.items():
-            self.bend(spots[first], spots[second], ", ".join(shared))
+            if first != second:
+                self.bend(spots[first], spots[second], ", ".join(shared), 44 if (second, first) in words else 0)
         for node, (x, y) in spots.items():
             self.text(x, y + 4, node, BAD if node in marked else INK, "middle", "bold")
+        return 2 * half
 
-    def bend(self, first, second, word):
-        """An edge of a ring, bent to its right, so that the one back stands apart."""
+    def bend(self, first, second, word, by):
+        """An edge of a ring, bent to its right by so much where there is one back."""
         (x1, y1), (x2, y2) = first, second
-        length = math.dist(first, second) or 1
-        bent = (x1 + x2) / 2 + 30 * (y1 - y2) / length, (y1 + y2) / 2 + 30 * (x2 - x1) / length
+        length = math.dist(first, second)
+        bent = (x1 + x2) / 2 + by * (y1 - y2) / length, (y1 + y2) / 2 + by * (x2 - x1) / length
         ends = [(x + 22 * (bent[0] - x) / math.dist(bent, (x, y)), y + 22 * (bent[1] - y) / math.dist(bent, (x, y))) for x, y in (first, second)]
         self.curve((ends[0], bent, ends[1]), QUIET)
-        self.text(bent[0], bent[1] + 4, word, QUIET, "middle")
+        self.text((x1 + x2) / 4 + bent[0] / 2, (y1 + y2) / 4 + bent[1] / 2 + 4, word, QUIET, "middle", size=10)
 
     def picture(self, width, height):
         """The whole picture, with a head for the arrows of each colour."""

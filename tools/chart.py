@@ -33,7 +33,7 @@ from xml.sax.saxutils import escape
 import mdbanswers
 from canvas import BAD, FAINT, GAP, GOOD, INK, LETTER, LOG, LOST, PALE, QUIET, SMALL, Canvas, colours, program_texts
 from chart_orders import OrdersChart
-from mdbcourse import Course
+from mdbcourse import Course, placed
 from mdblines import read_run
 from mdbtext import Wrong, told
 
@@ -86,7 +86,7 @@ class Chart(Canvas):
         self.digits = len(str(lines[-1].number)) if lines else 1
         self.names, self.course = mdbanswers.Names(run).names, Course(run)
         self.colours = colours({*run.session.locals, *run.session.globals})
-        self.bars = [bar for bar in self.course.bars if self.part(bar)]
+        self.bars = placed([bar for bar in self.course.bars if self.part(bar)])
         self.closing = self.closing_row()
         self.lay_out()
         self.top = self.head_height()
@@ -345,8 +345,8 @@ class Chart(Canvas):
             if words:
                 x, y, step = self.places[line.actor], self.down(row), 1 if line.actor == 0 else -1
                 end = x + (self.beside(line.actor) + 16) * step
-                self.line(x, y + 3, end, y + 9, colour, 'stroke-dasharray="4 3"')
-                self.text(end + 4 * step, y + 12, words, colour, "start" if step > 0 else "end", size=10)
+                self.line(x, y + 4, end, y + 13, colour, 'stroke-dasharray="4 3"')
+                self.text(end + 4 * step, y + 17, words, colour, "start" if step > 0 else "end", size=10)
 
     def draw_lines(self):
         for row, line in enumerate(self.lines):
@@ -378,11 +378,8 @@ class Chart(Canvas):
             edges = [(first, second, f"site {site}") for first, second, site in line.edges()]
             if edges:
                 nodes = list(dict.fromkeys(attempt for edge in edges for attempt in edge[:2]))
-                radius = max(60, 14 * len(nodes))
-                half = radius if len(nodes) > 2 else 30
                 self.text(GAP, self.height + GAP // 2, f"line {line.number}: {line.attempt} is refused by this cycle of tickets", BAD)
-                self.ring(nodes, edges, (radius, half), self.height + 2 * GAP, [line.attempt])
-                self.height += 2 * half + 3 * GAP
+                self.height += self.ring(nodes, edges, self.height + 2 * GAP, [line.attempt]) + 3 * GAP
 
     def whole(self):
         for draw in (self.draw_head, self.draw_verdict, self.draw_rows, self.draw_lanes, self.draw_bars, self.draw_closing, self.draw_messages):

@@ -42,6 +42,11 @@ class OrdersChart(Canvas):
 
     def draw_site(self, site):
         members = self.rows[site]
+        if not members:
+            self.text(GAP, self.height + 28, f"site {site}", weight="bold")
+            self.text(LEFT, self.height + 28, "no transaction is prepared or committed here", QUIET)
+            self.height += 40
+            return
         places = {attempt: LEFT + BOX / 2 + STEP * at for at, attempt in enumerate(members)}
         conflicts = self.orders.conflicts(site, members)
         spans = [members.index(second) - members.index(first) for first, second, _ in conflicts]
@@ -88,14 +93,12 @@ class OrdersChart(Canvas):
     def draw_graph(self):
         """The ticket graph of all that committed and of those that were refused."""
         edges = [(first, second, f"site {site}") for first, second, site in self.orders.ticket_edges()]
-        nodes = list(dict.fromkeys(attempt for edge in edges for attempt in edge[:2]))
-        if not nodes:
-            return
-        radius = max(60, 14 * len(nodes))
-        half = radius if len(nodes) > 2 else 30
-        self.text(GAP, self.height + 14, "the ticket graph: an edge where the ticket is smaller at the site", INK)
-        self.ring(nodes, edges, (radius, half), self.height + 2 * GAP + 10, self.orders.refused)
-        self.height += 2 * half + 4 * GAP
+        found = {attempt for edge in edges for attempt in edge[:2]}
+        nodes = [attempt for attempt in self.run.report[0].split(" ")[1:] if attempt in found]
+        nodes += sorted(found - set(nodes))
+        if nodes:
+            self.text(GAP, self.height + 14, "the ticket graph: an edge to the next ticket at a site")
+            self.height += self.ring(nodes, edges, self.height + 2 * GAP + 10, self.orders.refused) + 4 * GAP
 
     def draw_refusals(self):
         """Of each refusal the cycle, edge by edge, with the conflicts that stand behind it."""

@@ -10,8 +10,17 @@ class Bar:
     def __init__(self, actor, attempt, kind, first):
         self.actor, self.attempt, self.kind, self.first, self.last, self.column = actor, attempt, kind, first, None, 0
 
-    def overlaps(self, other):
-        return self.actor == other.actor and (other.last is None or other.last > self.first) and (self.last is None or self.last > other.first)
+
+def placed(bars):
+    """The bars, which stand in the order of their first lines, with different columns where they overlap at an actor; those of one attempt
+    keep theirs where they can."""
+    open_bars, last = {}, {}
+    for bar in bars:
+        beside = [other for other in open_bars.get(bar.actor, []) if other.last is None or other.last > bar.first]
+        taken, wanted = {other.column for other in beside}, last.get((bar.actor, bar.attempt), 0)
+        bar.column = wanted if wanted not in taken else next(at for at in range(len(taken) + 1) if at not in taken)
+        open_bars[bar.actor], last[bar.actor, bar.attempt] = beside + [bar], bar.column
+    return bars
 
 
 class Course:
@@ -26,7 +35,6 @@ class Course:
             except Wrong as why:
                 self.broken = line.number, str(why)
                 break
-        self.place()
 
     def follow(self, line):
         actor = self.actor_of(line)
@@ -85,13 +93,3 @@ class Course:
             if (actor.number, attempt) not in self.open:
                 bar = self.open[actor.number, attempt] = Bar(actor.number, attempt, kind, line.number)
                 self.bars.append(bar)
-
-    def place(self):
-        """Gives bars of an actor that overlap different columns; those of one attempt keep theirs where they can."""
-        placed, last = [], {}
-        for bar in self.bars:
-            taken = {other.column for other in placed if bar.overlaps(other)}
-            wanted = last.get((bar.actor, bar.attempt), 0)
-            bar.column = wanted if wanted not in taken else next(at for at in range(len(placed) + 1) if at not in taken)
-            last[bar.actor, bar.attempt] = bar.column
-            placed.append(bar)
