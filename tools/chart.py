@@ -349,22 +349,30 @@ class Chart(Canvas):
                 self.text(end + 4 * step, y + 17, words, colour, "start" if step > 0 else "end", size=10)
 
     def draw_lines(self):
+        """The answers; a browser shows the meaning of the one under the pointer."""
         for row, line in enumerate(self.lines):
-            x, y, colour = self.places[line.actor], self.down(row), colour_of(line)
-            decides = line.first() == "decides"
-            if decides:
-                self.diamond(x, y, colour)
-            elif line.stops():
-                self.box(x - 5, y - 5, 10, 10, colour)
-            else:
-                self.dot(x, y, self.colour(line.attempt))
-            side, anchor = (-12, "end") if line.actor == 0 else (12, "start")
-            about = f' <tspan fill="{QUIET}" font-weight="normal">{unnamed(line)}</tspan>' if unnamed(line) else ""
-            self.text(x + side, y + 4, escape(line.answer) + about, colour, anchor, "bold" if decides else "normal")
-            if self.note(line):
-                self.text(x + side, y + 15, self.note(line), LOG, anchor, size=10)
-            if self.course.broken and self.course.broken[0] == line.number:
-                self.text(x + side, y + 15, "contradicts the lines before it", BAD, anchor, size=10)
+            self.parts.append(f"<g><title>{mdbanswers.meaning_of(line)}</title>")
+            self.draw_sign(line, self.places[line.actor], self.down(row))
+            self.draw_answer(line, self.places[line.actor], self.down(row))
+            self.parts.append("</g>")
+
+    def draw_sign(self, line, x, y):
+        if line.first() == "decides":
+            self.diamond(x, y, colour_of(line))
+        elif line.stops():
+            self.box(x - 5, y - 5, 10, 10, colour_of(line))
+        else:
+            self.dot(x, y, self.colour(line.attempt))
+
+    def draw_answer(self, line, x, y):
+        side, anchor = (-12, "end") if line.actor == 0 else (12, "start")
+        about = f' <tspan fill="{QUIET}" font-weight="normal">{unnamed(line)}</tspan>' if unnamed(line) else ""
+        weight = "bold" if line.first() == "decides" else "normal"
+        self.text(x + side, y + 4, escape(line.answer) + about, colour_of(line), anchor, weight)
+        if self.note(line):
+            self.text(x + side, y + 15, self.note(line), LOG, anchor, size=10)
+        if self.course.broken and self.course.broken[0] == line.number:
+            self.text(x + side, y + 15, "contradicts the lines before it", BAD, anchor, size=10)
 
     # What stands below the lanes.
 

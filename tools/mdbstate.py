@@ -1,6 +1,7 @@
 """What each actor is at after each line of a run, derived from the printed lines by the rules (docs/RULES.md, sections 3 and 6 to 9)."""
 import re
 
+from mdbanswers import PRESUMED, record_of
 from mdbtext import Wrong
 
 # The answers with which a live attempt ends at its site without a record.
@@ -138,8 +139,8 @@ class Coordinator(Actor):
     def awaited(self, attempt):
         """The sites whose required acknowledgement is missing."""
         known = self.known[attempt]
-        idle = "commit" if known["decision"] == "commit" else "abort"
-        return [site for site, protocol in self.participants(attempt).items() if protocol != idle and site not in known["acks"]]
+        decision = "commit" if known["decision"] == "commit" else "abort"
+        return [site for site, protocol in self.participants(attempt).items() if PRESUMED[protocol] != decision and site not in known["acks"]]
 
     def kinds(self):
         """The kinds of the records that name each attempt."""
@@ -169,10 +170,10 @@ class Coordinator(Actor):
             self.start(line)
         elif first == "checked":
             self.records = [("Checkpoint", self.sum())]
-        elif first == "begun":
+        elif record_of(self.run, line):
+            self.records.append((record_of(self.run, line)[0], attempt))
+        if first == "begun":
             self.known[attempt] = {"since": line.number, "decision": None, "acks": set(), "votes": []}
-        elif first == "initiates":
-            self.records.append(("Initiation", attempt))
         elif first == "voted":
             self.known[attempt]["votes"].append(int(line.words[1]))
         elif first == "acked":
@@ -180,20 +181,13 @@ class Coordinator(Actor):
         elif first == "decides":
             self.decide(line, attempt)
         elif first == "forgets":
-            self.records.append(("End", attempt))
             del self.known[attempt]
 
     def decide(self, line, attempt):
-        """A Commit is always forced; an Abort where none of the participants has a presumption, unless no Prepare was sent."""
-        decision, forgets = line.answer.split(" ")[1], line.answer.endswith("forgets")
-        if decision == "commit":
-            self.records.append(("Commit", attempt))
-        elif not forgets and set(self.participants(attempt).values()) == {"nothing"}:
-            self.records.append(("Abort", attempt))
-        if forgets:
+        if line.answer.endswith("forgets"):
             del self.known[attempt]
         else:
-            self.known[attempt].update(decision=decision, decided=line.number)
+            self.known[attempt].update(decision=line.answer.split(" ")[1], decided=line.number)
 
     def appended(self, line, message):
         """The record that the stopped line may have appended: of a last vote the report says whether it is kept as a Commit."""
