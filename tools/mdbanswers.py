@@ -15,7 +15,7 @@ from mdbtext import told
 # The decision that a protocol presumes: its site settles by it without a force and without an acknowledgement.
 PRESUMED = {"nothing": None, "abort": "abort", "commit": "commit"}
 # Command, answer, message, record, when the record is forced, meaning. A message `next` is what is outstanding at its site: Work, Take,
-# Prepare or the decision. `reply`, `vote` and `decision` stand for the word that the answer has. `protocol` is told by PRESUMED.
+# Prepare or the decision. `reply`, `vote` and `decision` stand for the word that the answer has, and `protocol` for what PRESUMED says.
 ANSWERS = (
     ("begin", "begun .*", None, None, None, "a local attempt begins"),
     ("step", "(read|wrote) .*", None, None, None, "a step is done"),
@@ -51,7 +51,16 @@ ANSWERS = (
     ("check", "checked", None, "Checkpoint", "always", "the log is summed up, and trimmed before the sum"),
 )
 FIELDS = ("command", "answer", "message", "record", "forced", "meaning")
-ROWS = [dict(zip(FIELDS, row)) for row in ANSWERS]
+
+
+def named_row(row):
+    """A row by its fields; what stands behind `where` is a field of its own."""
+    fields = dict(zip(FIELDS, row))
+    kind, _, where = (fields["record"] or "").partition(" where ")
+    return {**fields, "record": kind or None, "where": where or None}
+
+
+ROWS = [named_row(row) for row in ANSWERS]
 # What a stopped line was to write, where a trip came in the middle of it.
 CRASHED = "a crash in the middle of this line"
 
@@ -80,12 +89,11 @@ def record_of(run, line):
     row = row_of(line)
     if not row or not row["record"]:
         return None
-    kind, _, condition = row["record"].partition(" where ")
-    if condition and {run.session.sites[site][1] for site in participants(run, line.attempt)} != {"nothing"}:
+    if row["where"] and {run.session.sites[site][1] for site in participants(run, line.attempt)} != {"nothing"}:
         return None
     if row["forced"] == "protocol":
-        return kind, PRESUMED[run.session.sites[line.actor][1]] != line.answer.split(" ")[-1]
-    return kind, row["forced"] == "always"
+        return row["record"], PRESUMED[run.session.sites[line.actor][1]] != line.answer.split(" ")[-1]
+    return row["record"], row["forced"] == "always"
 
 
 class Names:
