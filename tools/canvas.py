@@ -7,6 +7,9 @@ INK, QUIET, PALE, FAINT, LOST, GOOD, BAD, LOG = "#1b2733", "#7d8a96", "#b9c2ca",
 # The colours of transactions, which come again where there are more of them.
 COLOURS = ("#2f6db3", "#8a4fb3", "#1f8a84", "#c05a80", "#6a7d1f", "#4a4fc0", "#9a6a2a", "#3f8f3f")
 
+# The width and the opacity of the bars.
+BARS = {"live": (3, 0.45), "doubt": (6, 1), "undecided": (3, 0.45), "known": (6, 0)}
+
 
 def colours(transactions):
     """A colour for each transaction."""
@@ -45,6 +48,12 @@ class Canvas:
 
     def box(self, x, y, width, height, fill, more=""):
         self.parts.append(f'<rect x="{x:.0f}" y="{y:.0f}" width="{width:.0f}" height="{height:.0f}" fill="{fill}" {more}/>')
+
+    def bar(self, middle, y, height, kind, colour):
+        """A state of an attempt: thin where it isn't bound, broad where it is in doubt, hollow where it is decided."""
+        width, opacity = BARS[kind]
+        fill = f'fill-opacity="{opacity}"' + (f' stroke="{colour}"' if not opacity else "")
+        self.box(middle - width / 2, y, width, height, colour, fill)
 
     def diamond(self, x, y, colour):
         self.parts.append(f'<path d="M{x - 7:.0f} {y:.0f} l7 -7 l7 7 l-7 7 z" fill="{colour}"/>')

@@ -31,14 +31,14 @@ import re
 from xml.sax.saxutils import escape
 
 import mdbanswers
-from canvas import BAD, FAINT, GAP, GOOD, INK, LETTER, LOG, LOST, PALE, QUIET, SMALL, Canvas, colours, program_texts
+from canvas import BAD, FAINT, GAP, GOOD, INK, LETTER, LOG, LOST, PALE, QUIET, SMALL, colours
+from chart_head import Head
 from chart_orders import OrdersChart
 from mdbcourse import Course, placed
 from mdblines import read_run
 from mdbtext import Wrong, told
 
 ROW, PAGE, AGAIN, LONGEST, CLOSING, LEAST_WIDTH = 30, 40, 54, 200, 16, 900
-BAR_KINDS = {"live": (3, 0.45), "doubt": (6, 1), "undecided": (3, 0.45), "known": (6, 0)}
 
 
 def colour_of(line):
@@ -75,13 +75,13 @@ def chosen(run, rows, only):
     return [line for line in lines if line.number in shown]
 
 
-class Chart(Canvas):
+class Chart(Head):
     """The drawing. The coordinator's answers stand at the left of its lane, and those of a site at the right; the names of messages stand at
     the left of the site that takes or sends them."""
 
     def __init__(self, run, lines, named=None, title=""):
-        super().__init__()
-        self.run, self.lines, self.places, self.named, self.title = run, lines, {}, named, title
+        super().__init__(run, lines, title)
+        self.places, self.named = {}, named
         self.rows = {line.number: row for row, line in enumerate(lines)}
         self.digits = len(str(lines[-1].number)) if lines else 1
         self.names, self.course = mdbanswers.Names(run).names, Course(run)
@@ -144,68 +144,6 @@ class Chart(Canvas):
         inside = [row for number, row in self.rows.items() if bar.first <= number <= last]
         return (min(inside), max(inside)) if inside and (max(inside) > min(inside) or bar.last is None) else None
 
-    # What stands above the lanes.
-
-    def programs(self):
-        """The transactions that are drawn."""
-        numbers = sorted({int(line.attempt.split(".")[0]) for line in self.lines if line.attempt})
-        return program_texts(self.run.session, numbers, self.colours)
-
-    def legend(self):
-        """The signs that this chart has, each as what draws it and its words."""
-        kinds, lines = {bar.kind for bar in self.bars}, self.lines
-        colour = self.programs()[0][1] if self.programs() else INK
-        crossed = [line for line in lines if self.missing(line)[0]]
-        signs = [
-            (any(line.sends for line in lines), lambda x, y: self.arrow(x, y, x + 26, y, colour), "message"),
-            (any(self.look(line)[0] == QUIET for line in lines if line.takes), lambda x, y: self.arrow(x, y, x + 26, y, QUIET), "it doesn't count"),
-            (any(self.look(line)[1] for line in lines if line.takes), self.sign_dashed, "its actor is down or crashes"),
-            (crossed, lambda x, y: self.text(x + 18, y + 4, "×", LOST), "message that nobody takes: lost"),
-            ("live" in kinds, lambda x, y: self.sign_bar(x, y, "live", colour), "live at the site"),
-            ("doubt" in kinds, lambda x, y: self.sign_bar(x, y, "doubt", colour), "in doubt: prepared, and not decided there"),
-            ("undecided" in kinds, lambda x, y: self.sign_bar(x, y, "undecided", colour), "coordinator: undecided"),
-            ("known" in kinds, lambda x, y: self.sign_bar(x, y, "known", colour), "coordinator: decided, not forgotten"),
-            (any(line.first() == "decides" for line in lines), lambda x, y: self.diamond(x + 14, y, GOOD), "decision"),
-            (any(line.stops() for line in lines), self.sign_crash, "crash, and down until the recovery"),
-            (any("log " in self.note(line) for line in lines), lambda x, y: self.text(x + 10, y + 3, "log", LOG, size=10), "record written by this line"),
-        ]
-        return [(draw, words) for holds, draw, words in signs if holds]
-
-    def sign_dashed(self, x, y):
-        self.arrow(x, y, x + 26, y, BAD, 'stroke-dasharray="6 4"')
-
-    def sign_crash(self, x, y):
-        self.box(x + 16, y - 8, 12, 16, "#d5d9dd")
-        self.box(x + 17, y - 8, 10, 10, BAD)
-
-    def sign_bar(self, x, y, kind, colour):
-        self.draw_bar_at(x + 24, y - 7, 14, kind, colour)
-
-    def legend_places(self):
-        """The place of each sign: a row of them is as wide as the chart."""
-        places, x, row = [], GAP, 0
-        for _, words in self.legend():
-            wide = 34 + LETTER * len(words) + GAP
-            if x + wide > self.width and x > GAP:
-                x, row = GAP, row + 1
-            places.append((x, row))
-            x += wide
-        return places
-
-    def head_height(self):
-        """Title, programs, signs, and the heads of the lanes."""
-        signs = self.legend_places()
-        return 40 + self.programs_height(self.programs()) + (20 * (signs[-1][1] + 1) + 8 if signs else 0) + 52
-
-    def draw_head(self):
-        whole = len(self.lines) == len(self.run.lines)
-        count = f"{len(self.lines)} lines" if whole else f"{len(self.lines)} of {len(self.run.lines)} lines"
-        self.text(GAP, 26, escape(f"{self.title}: {count}" if self.title else count), weight="bold", size=15)
-        y = self.draw_programs(self.programs(), self.width, 46)
-        for (draw, words), (x, row) in zip(self.legend(), self.legend_places()):
-            draw(x, y + 20 * row + 4)
-            self.text(x + 34, y + 20 * row + 8, words, QUIET)
-
     # The lanes and what lies on them.
 
     def draw_verdict(self):
@@ -260,12 +198,7 @@ class Chart(Canvas):
                 first, last = self.part(bar)
                 y, end = self.down(first), self.foot if bar.last is None else self.down(last)
                 x = self.places[bar.actor] + (12 + 8 * bar.column) * (1 if bar.actor == 0 else -1)
-                self.draw_bar_at(x, y, end - y, bar.kind, self.colour(bar.attempt))
-
-    def draw_bar_at(self, middle, y, height, kind, colour):
-        width, opacity = BAR_KINDS[kind]
-        fill = f'fill-opacity="{opacity}"' + (f' stroke="{colour}"' if not opacity else "")
-        self.box(middle - width / 2, y, width, height, colour, fill)
+                self.bar(x, y, end - y, bar.kind, self.colour(bar.attempt))
 
     def closing_row(self):
         """The first row that no command asked for; behind the last one where there is none."""
@@ -440,7 +373,7 @@ def main():
     words = reader.parse_args()
     if words.orders and (words.rows or words.only or words.verdict):
         reader.error("--orders draws the whole run; it goes with no other choice")
-    run, title = read_run(words.session, words.output), pathlib.Path(words.session).stem
+    run, title = read_run(words.session, words.output), "" if words.session == "-" else pathlib.Path(words.session).stem
     if words.orders:
         print(OrdersChart(run, title).whole(), end="")
         return

@@ -111,7 +111,8 @@ def require(holds, what):
 
 def texts_of(picture):
     """The texts of a picture, in their order, and that it is well formed."""
-    return ["".join(part.nodeValue or part.firstChild.nodeValue for part in node.childNodes) for node in xml.dom.minidom.parseString(picture).getElementsByTagName("text")]
+    nodes = xml.dom.minidom.parseString(picture).getElementsByTagName("text")
+    return ["".join(part.nodeValue or part.firstChild.nodeValue for part in node.childNodes) for node in nodes]
 
 
 def check_chart(run):
@@ -271,6 +272,10 @@ def check_chart_calls():
     for words in (("--rows", "5-2"), ("--only", "site9"), ("--verdict", "agrees"), ("--orders", "--rows", "1-2")):
         called(2, "chart.py", session, output, *words)
     called(1, "chart.py", session, output, "--rows", "90-99")
+    line = [sys.executable, str(TOOLS / "chart.py"), str(session), str(output)]
+    for closed in ("| head -c 1", ">&-"):
+        ran = subprocess.run(["bash", "-c", f'"$@" {closed}', "bash", *line], stdout=subprocess.PIPE, stderr=subprocess.PIPE, check=False)
+        require(not ran.stderr, f"chart.py {closed}: {ran.stderr.decode()[-200:]}")
 
 
 CHART_CHECKS = (check_chart_texts, check_chart_parts, check_contradiction, check_answers, check_picture, check_chart_calls)

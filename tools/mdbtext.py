@@ -32,7 +32,9 @@ class Bad(Exception):
 
 
 def told(main):
-    """Runs a tool. What is wrong with its inputs is told in one line, with status 1."""
+    """Runs a tool. What is wrong with its inputs is told in one line, with status 1; where its output is closed it ends with it quietly."""
+    if sys.stdout is None:
+        sys.exit(1)
     try:
         main()
         sys.stdout.flush()
@@ -47,6 +49,8 @@ def told(main):
 
 def bytes_of(path):
     """The bytes of a file; `-` is standard input."""
+    if path == "-" and sys.stdin is None:
+        raise Wrong("standard input is closed")
     return sys.stdin.buffer.read() if path == "-" else pathlib.Path(path).read_bytes()
 
 
