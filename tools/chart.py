@@ -28,6 +28,7 @@ example: tools/chart.py examples/presumptions.fed examples/presumptions.out > pr
 import argparse
 import pathlib
 import re
+from bisect import bisect_left, bisect_right
 from xml.sax.saxutils import escape
 
 import mdbanswers
@@ -82,7 +83,8 @@ class Chart(Head):
     def __init__(self, run, lines, named=None, title=""):
         super().__init__(run, lines, title)
         self.places, self.named = {}, named
-        self.rows = {line.number: row for row, line in enumerate(lines)}
+        self.numbers = [line.number for line in lines]
+        self.rows = {number: row for row, number in enumerate(self.numbers)}
         self.digits = len(str(lines[-1].number)) if lines else 1
         self.names, self.course = mdbanswers.Names(run).names, Course(run)
         self.colours = colours({*run.session.locals, *run.session.globals})
@@ -141,8 +143,9 @@ class Chart(Head):
     def part(self, bar):
         """The rows of a bar that are drawn: the first and the last, or None."""
         last = bar.last or (self.run.lines[-1].number + 1)
-        inside = [row for number, row in self.rows.items() if bar.first <= number <= last]
-        return (min(inside), max(inside)) if inside and (max(inside) > min(inside) or bar.last is None) else None
+        first, behind = bisect_left(self.numbers, bar.first), bisect_right(self.numbers, last)
+        drawn = behind - first > 1 or behind > first and bar.last is None
+        return (first, behind - 1) if drawn else None
 
     # The lanes and what lies on them.
 
@@ -260,7 +263,7 @@ class Chart(Head):
         return count
 
     def missing(self, line):
-        """Of what a line sends: whether any is lost, what is said of that and of what rows that aren't drawn take, and its colour."""
+        """What becomes of a line's messages: whether any is lost, what is said of that and of what other rows take, and its colour."""
         lost, said = [message for message in line.sends if not self.run.taken.get(message)], []
         for name in dict.fromkeys(self.names[message] for message in lost):
             sites = [str(message[1]) for message in lost if self.names[message] == name]

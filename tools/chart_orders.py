@@ -101,7 +101,7 @@ class OrdersChart(Canvas):
             self.height += self.ring(nodes, edges, self.height + 2 * GAP + 10, self.orders.refused) + 4 * GAP
 
     def draw_refusals(self):
-        """Of each refusal the cycle, edge by edge, with the conflicts that stand behind it."""
+        """The cycle of each refusal, edge by edge, with the conflicts that stand behind it."""
         for attempt, line in self.orders.refused.items():
             self.text(GAP, self.height + 14, f"line {line.number}: {attempt} is refused; with it committed these would close a cycle", BAD)
             self.height += 18

@@ -30,7 +30,7 @@ class Numbers:
 
 
 class Orders:
-    """Of each site its numbers and tickets, from a whole run."""
+    """The numbers and the tickets of each site, from a whole run."""
 
     def __init__(self, run):
         self.run, self.tickets, state = run, {}, State(run)
@@ -85,19 +85,20 @@ class Orders:
         acts = [act for at, act in steps if at == site]
         return {act[1] for act in acts if act[0] == "get"}, {act[1] for act in acts if act[0] != "get"}
 
-    def conflict(self, first, second, site):
-        """The keys for which two attempts conflict at a site: one of them writes it."""
-        (reads, writes), (other_reads, other_writes) = self.accesses(first, site), self.accesses(second, site)
+    @staticmethod
+    def conflict(first, second):
+        """The keys for which two conflict, given what each reads and writes: one of them writes it."""
+        (reads, writes), (other_reads, other_writes) = first, second
         return sorted(writes & (other_reads | other_writes) | reads & other_writes)
 
     def conflicts(self, site, members):
         """The conflicts of a site's order, each from the earlier attempt to the later; those that follow from others are left out."""
-        found, behind = [], {}
+        found, behind, accesses = [], {}, {attempt: self.accesses(attempt, site) for attempt in members}
         for at, second in enumerate(members):
             behind[second] = set()
             for first in reversed(members[:at]):
-                keys = self.conflict(first, second, site)
-                if keys and first not in behind[second]:
+                keys = [] if first in behind[second] else self.conflict(accesses[first], accesses[second])
+                if keys:
                     found.append((first, second, keys))
                     behind[second] |= {first} | behind[first]
         return found
