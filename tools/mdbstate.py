@@ -1,10 +1,11 @@
 """What each actor is at after each line of a run, derived from the printed lines by the rules (docs/RULES.md, sections 3 and 6 to 9)."""
 import re
 
+from mdbanswers import PRESUMED, record_of
 from mdbtext import Wrong
 
-# The answers with which a live attempt ends at its site without a record.
-ENDED = "unheld|dropped|(did .* )?(dies|late) |invalid|votes .* (invalid|moved)"
+# The answers with which an attempt isn't live any more at its site.
+ENDED = "unheld|dropped|(did .* )?(dies|late) |invalid|votes .* (yes|invalid|moved)"
 
 
 def attempts(names):
@@ -44,8 +45,9 @@ class Actor:
 class Site(Actor):
     """A site: its live attempts with the line that began each, whom each waits for, and its records."""
 
-    def __init__(self, number):
+    def __init__(self, number, run):
         super().__init__(number, [("Setup", None), ("Start", None)])
+        self.run = run
         self.live, self.waits, self.tickets, self.doubtful = {}, {}, {}, {}
 
     def doubts(self):
@@ -76,15 +78,23 @@ class Site(Actor):
         if line.stops():
             self.stop(line, decides)
         elif first == "up":
-            self.add("Start", None)
             self.check_count(line, len(self.doubts()))
-        elif first == "checked":
-            self.records = [("Checkpoint", tuple(self.doubts().items()))]
         elif first == "begun" or first == "did" and re.search(" (done|value|ticket|waits)", line.answer):
             self.live.setdefault(attempt, line.number)
         if first in ("read", "wrote", "did", "waits"):
             self.waits.pop(attempt, None)
+        self.write(line)
         self.answer(line, attempt)
+
+    def write(self, line):
+        """Adds a line's record. A Checkpoint stands for all before it; a vote that is given again has its record."""
+        kind = (record_of(self.run, line) or (None,))[0]
+        if kind == "Checkpoint":
+            self.records = [(kind, tuple(self.doubts().items()))]
+        elif kind == "Prepared" and line.attempt not in self.doubts():
+            self.add(kind, (line.attempt, line.number))
+        elif kind and kind != "Prepared":
+            self.add(kind, line.attempt)
 
     def answer(self, line, attempt):
         """What the answer says of its attempt."""
@@ -94,16 +104,7 @@ class Site(Actor):
             self.waits[attempt] = waits[1]
         if "ticket" in said:
             self.tickets[attempt] = said.split(" ")[-1]
-        if re.match("votes .* yes", said):
-            if attempt not in self.doubts():
-                self.add("Prepared", (attempt, line.number))
-            self.end(attempt)
-        elif re.match("settles", said):
-            self.add("Ended", attempt)
-        elif line.word == "commit" and re.match("committed", said):
-            self.add("Local", attempt)
-            self.end(attempt)
-        elif re.match(ENDED, said) or line.word == "abort" and re.match("aborted", said):
+        if re.match(ENDED, said) or line.word == "abort" and re.match("aborted", said) or line.word == "commit" and re.match("committed", said):
             self.end(attempt)
 
     def stop(self, line, decides):
@@ -138,8 +139,8 @@ class Coordinator(Actor):
     def awaited(self, attempt):
         """The sites whose required acknowledgement is missing."""
         known = self.known[attempt]
-        idle = "commit" if known["decision"] == "commit" else "abort"
-        return [site for site, protocol in self.participants(attempt).items() if protocol != idle and site not in known["acks"]]
+        decision = "commit" if known["decision"] == "commit" else "abort"
+        return [site for site, protocol in self.participants(attempt).items() if PRESUMED[protocol] != decision and site not in known["acks"]]
 
     def kinds(self):
         """The kinds of the records that name each attempt."""
@@ -169,10 +170,10 @@ class Coordinator(Actor):
             self.start(line)
         elif first == "checked":
             self.records = [("Checkpoint", self.sum())]
-        elif first == "begun":
+        elif record_of(self.run, line):
+            self.records.append((record_of(self.run, line)[0], attempt))
+        if first == "begun":
             self.known[attempt] = {"since": line.number, "decision": None, "acks": set(), "votes": []}
-        elif first == "initiates":
-            self.records.append(("Initiation", attempt))
         elif first == "voted":
             self.known[attempt]["votes"].append(int(line.words[1]))
         elif first == "acked":
@@ -180,20 +181,13 @@ class Coordinator(Actor):
         elif first == "decides":
             self.decide(line, attempt)
         elif first == "forgets":
-            self.records.append(("End", attempt))
             del self.known[attempt]
 
     def decide(self, line, attempt):
-        """A Commit is always forced; an Abort where none of the participants has a presumption, unless no Prepare was sent."""
-        decision, forgets = line.answer.split(" ")[1], line.answer.endswith("forgets")
-        if decision == "commit":
-            self.records.append(("Commit", attempt))
-        elif not forgets and set(self.participants(attempt).values()) == {"nothing"}:
-            self.records.append(("Abort", attempt))
-        if forgets:
+        if line.answer.endswith("forgets"):
             del self.known[attempt]
         else:
-            self.known[attempt].update(decision=decision, decided=line.number)
+            self.known[attempt].update(decision=line.answer.split(" ")[1], decided=line.number)
 
     def appended(self, line, message):
         """The record that the stopped line may have appended: of a last vote the report says whether it is kept as a Commit."""
@@ -228,7 +222,7 @@ class State:
     def __init__(self, run):
         self.run, self.behind = run, 0
         self.coordinator = Coordinator(run)
-        self.sites = {site: Site(site) for site in sorted(run.session.sites)}
+        self.sites = {site: Site(site, run) for site in sorted(run.session.sites)}
         self.decisions = set()
 
     def step(self):

@@ -34,6 +34,8 @@ class Bad(Exception):
 
 def told(main):
     """Runs a tool. What is wrong with its inputs is told in one line, with status 1; a closed output ends it quietly."""
+    if sys.stdout is None:
+        sys.exit(1)
     try:
         try:
             main()
@@ -51,6 +53,8 @@ def told(main):
 
 def bytes_of(path):
     """The bytes of a file; `-` is standard input."""
+    if path == "-" and sys.stdin is None:
+        raise Wrong("standard input is closed")
     return sys.stdin.buffer.read() if path == "-" else pathlib.Path(path).read_bytes()
 
 
