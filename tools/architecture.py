@@ -18,7 +18,7 @@ PICTURE = TOP / "docs" / "architecture.svg"
 # A floor: its name, its title, what lives there and what it may touch, its crates.
 FLOORS = [
     ("tests", "Tests and examples", "touch public calls alone",
-     "text_tests part_tests file_tests journal_tests engine_tests actor_tests world_tests session_tests world_by_hand engine_alone"),
+     "text_tests part_tests file_tests journal_tests engine_tests actor_tests world_tests session_tests cases world_by_hand engine_alone"),
     ("top", "Top", "words, source, sink, disks, status, and what is printed; touches the world's public calls",
      "mdbfed mdb_top resume_output session_outputs outputs"),
     ("threads", "A run in threads", "hosts behind a lock each; touch the actors' public calls",
@@ -33,7 +33,7 @@ FLOORS = [
      "site_book site_tables ticket_item prepared_state journal_sums usable_journals found_disks coord_tables protocol_table global_exec ticket_graph conservative_take "
      "audit_lines order_merge serial_machine trace_merge scripted_link client_drivers"),
     ("texts", "Texts", "one grammar each; touches nothing else",
-     "line_text trace_lines scenario_text report_text audit_text scenario_maker"),
+     "line_text trace_lines scenario_text report_text audit_text scenario_maker case_text"),
     ("bytes", "Bytes and disks", "one format each; touches its own bytes and its own disk",
      "actor_store journal_rules site_journal coord_journal frame_journal file_disks journal_disk fed_messages record_fields field_bytes byte_numbers"),
     ("printed", "Laws of lines and hosts", "touch definitions, those of actors, parts and texts too",
